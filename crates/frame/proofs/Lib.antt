@@ -1,0 +1,11 @@
+pub mod Reading
+pub mod Cases
+pub mod Conds
+pub mod Framing
+pub mod Items
+pub mod OneForm
+pub mod ScanLoop
+pub mod Scanning
+pub mod Sizes
+pub mod Windows
+pub mod Writing

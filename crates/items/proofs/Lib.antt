@@ -1,0 +1,4 @@
+pub mod Chains
+pub mod Lines
+pub mod Numbers
+pub mod Records

@@ -1,0 +1,4 @@
+pub mod BigEndian
+pub mod Events
+pub mod Kinds
+pub mod Spoken

@@ -1,0 +1,4 @@
+pub mod Answers
+pub mod Blobs
+pub mod Commands
+pub mod Reports
