@@ -1,18 +1,17 @@
 -- The report of a blob, one piece at a time.
-use mathlib.Core.Path.{_≡_, refl, sym, ap, _∙_, subst}
-use mathlib.Core.List.{List, [], _++_}
+use mathlib.Core.Path.{_≡_, refl, sym, ap, _∙_}
+use mathlib.Core.List.{List, _++_}
 use Prim.Native.Nat.{ℕ, suc, _+_, _-_, _<_, _≤_}
 use native.Mathlib.Omega.{arith}
 use lib.ListN.{length, getD}
 use Rattle.std.specs.declared.option.Option.{Option}
-use Rattle.std.specs.declared.option.Option.the-variants.{Some, None}
+use Rattle.std.specs.declared.option.Option.the-variants.{Some}
 use Rattle.std.specs.declared.result.Result.{Result}
 use Rattle.std.specs.declared.result.Result.the-variants.{Ok, Err}
-use Rattle.std.proofs.shelf.Lists.{append-assoc, append-nil}
-use Rattle.faults.specs.declared.frame.Place.{Place}
+use Rattle.std.proofs.shelf.Lists.{append-assoc}
 use Rattle.faults.specs.declared.frame.FrameFault.{FrameFault}
 use Rattle.items.specs.Kinds.{Kind}
-use Rattle.frame.specs.Pieces.{Seen, item, torn, ended, pieceAt}
+use Rattle.frame.specs.Pieces.{Seen, item, torn, ended}
 use Rattle.frame.proofs.ScanLoop.{item-sizes}
 use Rattle.script.specs.Blobs.{pieceLine, itemSize, goesOn, pieceBehind, reportFrom, reportOf, PieceTold}
 

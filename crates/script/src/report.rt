@@ -4,11 +4,11 @@
 //! out, the report that was begun is let go, and nothing of it is shown.
 
 ghost use mathlib.Core.Path.{_≡_};
-ghost use mathlib.Core.List.{List, [], _∷_, _++_};
+ghost use mathlib.Core.List.{List, _++_};
 ghost use Prim.Native.Nat.{ℕ};
 ghost use Rattle.std.specs.Of.Vec.{vec-items};
 ghost use Rattle.std.specs.Vec.{made};
-ghost use Rattle.script.specs.Reports.{labelled, causeName, eventText, spokenText, frameLine, endLine, tornLine, detailText, numberText, refusedLine};
+ghost use Rattle.script.specs.Reports.{labelled, causeName, eventText, spokenText, frameLine, endLine, tornLine, detailText, refusedLine};
 use faults::Detail;
 use faults::Refusal;
 use items::Cause;

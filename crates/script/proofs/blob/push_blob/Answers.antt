@@ -1,4 +1,4 @@
-use mathlib.Core.Path.{_≡_, sym, ap, _∙_}
+use mathlib.Core.Path.{sym, ap, _∙_}
 use mathlib.Core.List.{List, _++_}
 use Prim.Native.Nat.{ℕ, _+_, _<_, _≤_}
 use native.Mathlib.Omega.{arith}
@@ -7,8 +7,7 @@ use lib.ListN.{length}
 use Rattle.std.proofs.shelf.Lists.{append-nil}
 use Rattle.std.specs.Of.Vec.{vec-items}
 use Rattle.std.specs.declared.option.Option.{Option}
-use Rattle.std.specs.declared.option.Option.the-variants.{Some, None}
-use Rattle.script.specs.Blobs.{goesOn, reportOf}
+use Rattle.script.specs.Blobs.{goesOn}
 use Rattle.script.proofs.ReportLoop.{left, begins, goes-on, next-sizes}
 use Rattle.script.proofs.blob.push_blob.Given as given
 use Rattle.script.proofs.blob.push_blob.Needs as need
