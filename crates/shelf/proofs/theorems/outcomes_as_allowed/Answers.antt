@@ -1,0 +1,5 @@
+use Rattle.shelf.proofs.Rule.{outcomes-as-allowed}
+use Rattle.shelf.proofs.theorems.outcomes_as_allowed.Needs as need
+
+pub returns : need.returns
+returns c = outcomes-as-allowed

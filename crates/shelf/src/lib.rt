@@ -1,0 +1,11 @@
+//! Shelves: stores of numbered blobs, and what a power failure may leave of them.
+//!
+//! `specs::Shelves` says what a shelf is and what each call does, `specs::Outcomes` what a restart may leave,
+//! `specs::Laws` what is true of every shelf over any run. The functions here do nothing: each holds one theorem
+//! about these definitions on its contract, so that the crate is proved only with it.
+
+mod theorems;
+
+pub use theorems::outcomes_as_allowed;
+pub use theorems::restarts_once;
+pub use theorems::safe_bytes_stay;

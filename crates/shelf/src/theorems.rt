@@ -1,0 +1,21 @@
+//! What is true of every shelf, over its meaning alone.
+
+ghost use Rattle.shelf.specs.Laws.{RestartsOnce, SafeBytesStay};
+ghost use Rattle.shelf.specs.Outcomes.{OutcomesAsAllowed};
+
+/// What a restart may leave, blob by blob, is what the rule in words allows: every outcome keeps the
+/// rule, and whatever keeps it is an outcome.
+pub fn outcomes_as_allowed()
+    ensures { λ _. ⌜ OutcomesAsAllowed ⌝ }
+{}
+
+/// Over any run of calls, power failures and restarts, every byte that was safe is there at its
+/// place, and safe, unless a call cut or removed it.
+pub fn safe_bytes_stay()
+    ensures { λ _. ⌜ SafeBytesStay ⌝ }
+{}
+
+/// A restart after a restart changes nothing.
+pub fn restarts_once()
+    ensures { λ _. ⌜ RestartsOnce ⌝ }
+{}
