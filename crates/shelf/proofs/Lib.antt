@@ -1,8 +1,11 @@
 pub mod Allowing
 pub mod Fronts
+pub mod Goodness
+pub mod Limits
 pub mod Lookups
 pub mod Order
 pub mod Parallel
 pub mod Rule
 pub mod Running
+pub mod States
 pub mod Staying

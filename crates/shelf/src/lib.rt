@@ -9,3 +9,4 @@ mod theorems;
 pub use theorems::outcomes_as_allowed;
 pub use theorems::restarts_once;
 pub use theorems::safe_bytes_stay;
+pub use theorems::states_stay_good;

@@ -1,6 +1,6 @@
 //! What is true of every shelf, over its meaning alone.
 
-ghost use Rattle.shelf.specs.Laws.{RestartsOnce, SafeBytesStay};
+ghost use Rattle.shelf.specs.Laws.{RestartsOnce, SafeBytesStay, StatesStayGood};
 ghost use Rattle.shelf.specs.Outcomes.{OutcomesAsAllowed};
 
 /// What a restart may leave, blob by blob, is what the rule in words allows: every outcome keeps the
@@ -18,4 +18,11 @@ pub fn safe_bytes_stay()
 /// A restart after a restart changes nothing.
 pub fn restarts_once()
     ensures { λ _. ⌜ RestartsOnce ⌝ }
+{}
+
+/// From a state of a shelf, no call, power failure or restart leads to anything but a state: numbers
+/// rise and are at most 2^56, no blob is longer than the blob size or more safe than long, and there are
+/// no more blobs than the maximum.
+pub fn states_stay_good()
+    ensures { λ _. ⌜ StatesStayGood ⌝ }
 {}
