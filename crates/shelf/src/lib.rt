@@ -6,6 +6,7 @@
 
 mod theorems;
 
+pub use theorems::failed_as_restart;
 pub use theorems::outcomes_as_allowed;
 pub use theorems::restarts_once;
 pub use theorems::safe_bytes_stay;

@@ -1,6 +1,6 @@
 //! What is true of every shelf, over its meaning alone.
 
-ghost use Rattle.shelf.specs.Laws.{RestartsOnce, SafeBytesStay, StatesStayGood};
+ghost use Rattle.shelf.specs.Laws.{FailedAsRestart, RestartsOnce, SafeBytesStay, StatesStayGood};
 ghost use Rattle.shelf.specs.Outcomes.{OutcomesAsAllowed};
 
 /// What a restart may leave, blob by blob, is what the rule in words allows: every outcome keeps the
@@ -25,4 +25,10 @@ pub fn restarts_once()
 /// no more blobs than the maximum.
 pub fn states_stay_good()
     ensures { λ _. ⌜ StatesStayGood ⌝ }
+{}
+
+/// A restart after a failed call leaves what a restart with no failed call leaves of one state, or for a
+/// make or a remove of one of two.
+pub fn failed_as_restart()
+    ensures { λ _. ⌜ FailedAsRestart ⌝ }
 {}
