@@ -1,0 +1,4 @@
+pub mod Entering
+pub mod Goodness
+pub mod Rule
+pub mod Staying

@@ -1,0 +1,12 @@
+//! Offsets journals: the index beside the data, from a position to the byte where its frame begins.
+//!
+//! `specs::Entries` says what an offsets journal is and what each call does, `specs::Outcomes` what a restart may leave,
+//! `specs::Laws` what is true of every one over any run. The functions here do nothing: each holds one theorem
+//! about these definitions on its contract, so that the crate is proved only with it.
+
+mod theorems;
+
+pub use theorems::entries_stay;
+pub use theorems::outcomes_as_allowed;
+pub use theorems::restarts_once;
+pub use theorems::states_stay_good;
