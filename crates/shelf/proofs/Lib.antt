@@ -1,6 +1,5 @@
 pub mod Allowing
 pub mod Failing
-pub mod Fronts
 pub mod Goodness
 pub mod Limits
 pub mod Lookups

@@ -5,7 +5,7 @@ use Prim.Native.Nat.{ℕ, _≤_}
 use native.Mathlib.Omega.{arith}
 use lib.ListN.{length, take}
 use Rattle.std.proofs.shelf.Lists.{length-take, take-append-le, take-take, nil-from-length}
-use Rattle.shelf.specs.Outcomes.{Front}
+use Rattle.power.specs.Fronts.{Front}
 
 -- a front is no longer than the whole
 pub front-short : (xs ys : List ℕ) → Front xs ys → length xs ≤ length ys
