@@ -18,6 +18,7 @@ pub use frame::FrameFault;
 pub use frame::FrameFromShelf;
 pub use frame::Place;
 pub use offsets::OffsetsFault;
+pub use offsets::OffsetsFaultPartialEq;
 pub use offsets::OffsetsFromShelf;
 pub use recovery::Corruption;
 pub use recovery::RecoveryFault;
