@@ -2,6 +2,7 @@
 //!
 //! All that it answers is said by `script::answer_line`; here is only the reading and the writing.
 //! With the argument `--echo` each line of the script is written before its answer.
+#![tactic(auto)]
 
 use script::{answer_line, transcript_line};
 use std::io::{BufRead, BufReader, Write};

@@ -7,6 +7,7 @@
 //!     ShelfFault -> OffsetsFault -> RecoveryFault
 //!
 //! What a user is shown is a `Refusal`: the layer of the innermost fault, its number, its values.
+#![tactic(auto)]
 
 mod frame;
 mod offsets;

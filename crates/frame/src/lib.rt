@@ -4,6 +4,7 @@
 //! (`write`) reads back as the same item, whatever follows it, and a frame that was cut short reads as a
 //! torn end. Reading at a byte (`piece`) and reading a whole blob (`scan`) answer for any bytes whatever,
 //! and never read past the bytes that they are given.
+#![tactic(auto)]
 
 mod piece;
 mod prefix;

@@ -4,6 +4,7 @@
 //! `specs::Laws` what is true of every one over any run, `specs::Questions` what each question tells. `Offsets` is the trait
 //! with these promises on its calls, `MemoryOffsets` the one in memory. The functions of `theorems` do nothing: each holds
 //! one theorem about the definitions on its contract, so that the crate is proved only with it.
+#![tactic(auto)]
 
 mod journal;
 mod memory;

@@ -4,3 +4,4 @@
 //! `specs::Known` (a store as its writer knows it), `specs::Runs` (runs of calls, failures and restarts). `proofs::Bridge` leads from
 //! the promises to what is known, `proofs::Runs` from each call to whole runs. No code
 //! stands here; the traits of stores cite these words in their contracts.
+#![tactic(auto)]

@@ -2,6 +2,7 @@
 //!
 //! A script is lines of words; a line is one command. Every line gets its answer, whatever bytes it
 //! has: what is no command is answered by one line that begins `error: `, and the next line goes on.
+#![tactic(auto)]
 
 mod answer;
 mod blob;

@@ -1,4 +1,5 @@
 //! What a script of the console asks of a shelf, and what each of its lines is answered.
+#![tactic(auto)]
 
 mod answer;
 mod opening;

@@ -3,6 +3,7 @@
 //! The rows in use are the first of the slice, and their keys rise strictly. The functions over a slice and a count
 //! (`rows`, `edits`) answer for any slice whatever; where its rows in use rise, each edit leaves them rising, and
 //! each key but the one edited tells the same row as before. A table over a lent slice (`lent`) keeps the count too.
+#![tactic(auto)]
 
 mod edits;
 mod lent;

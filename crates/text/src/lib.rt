@@ -2,6 +2,7 @@
 //!
 //! Everything is over bytes, so that any bytes whatever get an answer: what is no number is refused by `None`, and
 //! nothing is asked of the caller. What a writer appends, the reader of the same module reads back.
+#![tactic(auto)]
 
 pub mod decimal;
 pub mod hex;
