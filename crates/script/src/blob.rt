@@ -20,7 +20,7 @@ fn push_piece<K: ItemText>(
     index: u64,
     byte: u64,
 ) -> Result<Option<usize>, AllocError>
-    ensures { IfOk result (λ next. PieceTold (text kind.now) index byte (piece_behind (K.ItemKind.meaning kind.now) bytes.now index byte) out.old.items out.new.items next) }
+    ensures { IfOk result (λ next. PieceTold (K.text kind.now) index byte (piece_behind (K.meaning kind.now) bytes.now index byte) out.old.items out.new.items next) }
 {
     match piece_at(kind, Place { blob: BLOB, byte }, index, bytes) {
         Ok(
@@ -54,7 +54,7 @@ pub(crate) fn push_blob<K: ItemText>(
     kind: &K,
     bytes: &[u8],
 ) -> Result<(), AllocError>
-    ensures { OnOk result (out.new.items ≡ out.old.items ++ report_of (K.ItemKind.meaning kind.now) (text kind.now) bytes.now) }
+    ensures { OnOk result (out.new.items ≡ out.old.items ++ report_of (K.meaning kind.now) (K.text kind.now) bytes.now) }
 {
     let mut index: u64 = 0;
     let mut byte: u64 = 0;

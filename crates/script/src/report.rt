@@ -77,7 +77,7 @@ pub(crate) fn push_frame<K: ItemText>(
     byte: u64,
     item: &[u8],
 ) -> Result<(), AllocError>
-    ensures { OnOk result (out.new.items ≡ out.old.items ++ frame_line index byte (text kind.now item.now)) }
+    ensures { OnOk result (out.new.items ≡ out.old.items ++ frame_line index byte (K.text kind.now item.now)) }
 {
     push_number(out, "frame ", index)?;
     push_number(out, " byte ", byte)?;

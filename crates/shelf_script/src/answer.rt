@@ -43,7 +43,7 @@ fn add_text<S: Shelf>(
     hex: &[u8],
     line: &[u8],
 ) -> Result<Vec<u8>, AllocError>
-    ensures { IfOk result (λ v. Added blob (bytes_in hex.now) line.now (S.Shelf.seen shelf.old) v.items (S.Shelf.seen shelf.new)) }
+    ensures { IfOk result (λ v. Added blob (bytes_in hex.now) line.now (S.seen shelf.old) v.items (S.seen shelf.new)) }
 {
     match read_bytes(heap, hex)? {
         Some(bytes) => {
@@ -56,7 +56,7 @@ fn add_text<S: Shelf>(
 
 // `print`.
 fn print_text<S: Shelf>(heap: Global, shelf: &mut S, line: &[u8]) -> Result<Vec<u8>, AllocError>
-    ensures { IfOk result (λ v. Shown line.now (S.Shelf.seen shelf.old) v.items (S.Shelf.seen shelf.new)) }
+    ensures { IfOk result (λ v. Shown line.now (S.seen shelf.old) v.items (S.seen shelf.new)) }
 {
     let mut out = Vec::new(heap);
     match push_blobs(heap, &mut out, shelf) {
@@ -73,7 +73,7 @@ fn obey<S: Shelf>(
     order: Order<'_>,
     line: &[u8],
 ) -> Result<Vec<u8>, AllocError>
-    ensures { IfOk result (λ v. Obeyed (asked order.entry) line.now (S.Shelf.seen shelf.old) v.items (S.Shelf.seen shelf.new)) }
+    ensures { IfOk result (λ v. Obeyed (asked order.entry) line.now (S.seen shelf.old) v.items (S.seen shelf.new)) }
 {
     let outcome = match order {
         Order::Make { blob } => shelf.make(blob),
@@ -97,7 +97,7 @@ pub fn answer_order<S: Shelf>(
     shelf: &mut S,
     line: &[u8],
 ) -> Result<Vec<u8>, AllocError>
-    ensures { IfOk result (λ v. Answered line.now (S.Shelf.seen shelf.old) v.items (S.Shelf.seen shelf.new)) }
+    ensures { IfOk result (λ v. Answered line.now (S.seen shelf.old) v.items (S.seen shelf.new)) }
 {
     match read_order(line) {
         Ok(order) => obey(heap, shelf, order, line),

@@ -50,7 +50,7 @@ fn push_blob_line(out: &mut Vec<u8>, blob: u64, safe: u64, bytes: &[u8]) -> Resu
 
 // The bytes of a blob.
 fn read_all<S: Shelf>(heap: Global, shelf: &mut S, blob: u64) -> Result<Vec<u8>, PrintFault>
-    ensures { BytesRead vec_items blob (S.Shelf.seen shelf.old) result (S.Shelf.seen shelf.new) }
+    ensures { BytesRead vec_items blob (S.seen shelf.old) result (S.seen shelf.new) }
 {
     let len = shelf.len(blob)?;
     let mut bytes = vec![in heap; 0; len as usize]?;
@@ -65,7 +65,7 @@ fn push_blob<S: Shelf>(
     shelf: &mut S,
     blob: u64,
 ) -> Result<(), PrintFault>
-    ensures { BlobPrinted blob (S.Shelf.seen shelf.old) out.old.items result (S.Shelf.seen shelf.new) out.new.items }
+    ensures { BlobPrinted blob (S.seen shelf.old) out.old.items result (S.seen shelf.new) out.new.items }
 {
     let safe = shelf.safe_count(blob)?;
     let bytes = read_all(heap, shelf, blob)?;
@@ -79,7 +79,7 @@ pub fn push_blobs<S: Shelf>(
     out: &mut Vec<u8>,
     shelf: &mut S,
 ) -> Result<(), PrintFault>
-    ensures { Printed (S.Shelf.seen shelf.old) out.old.items result (S.Shelf.seen shelf.new) out.new.items }
+    ensures { Printed (S.seen shelf.old) out.old.items result (S.seen shelf.new) out.new.items }
 {
     let count = shelf.count()?;
     for i in 0..count {

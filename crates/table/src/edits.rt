@@ -40,7 +40,7 @@ fn put_at<R: Row>(rows: &mut [R], place: usize, row: R)
 /// Inserts the row at its place among those in use, of which there is then one more. Refused as `Present` where one in
 /// use has its key, and else as `Full` where all of the slice is in use.
 pub fn insert_in<R: Row>(rows: &mut [R], len: usize, row: R) -> Result<(), TableFault>
-    ensures { Inserts number len row rows.old result rows.new }
+    ensures { Inserts R.number len row rows.old result rows.new }
 {
     match find_in(rows, len, row.number()) {
         Ok(_) => Err(TableFault::Present),
@@ -56,7 +56,7 @@ pub fn insert_in<R: Row>(rows: &mut [R], len: usize, row: R) -> Result<(), Table
 
 /// Removes the row in use that has the key, and answers it; there is then one less in use. None where no row has it.
 pub fn remove_in<R: Row>(rows: &mut [R], len: usize, key: u64) -> Option<R>
-    ensures { Removes number len key rows.old result rows.new }
+    ensures { Removes R.number len key rows.old result rows.new }
 {
     let len = len.min(rows.len());
     match find_in(rows, len, key) {
@@ -67,7 +67,7 @@ pub fn remove_in<R: Row>(rows: &mut [R], len: usize, key: u64) -> Option<R>
 
 /// Puts the row in the place of that in use which has its key, and answers whether there was one.
 pub fn change_in<R: Row>(rows: &mut [R], len: usize, row: R) -> bool
-    ensures { Changes number len row rows.old result rows.new }
+    ensures { Changes R.number len row rows.old result rows.new }
 {
     match find_in(rows, len, row.number()) {
         Ok(place) => {

@@ -12,7 +12,7 @@ use crate::rows::{Row, TableFault, find_in, get_in};
 
 /// Whether the keys of all the rows rise strictly.
 fn rises<R: Row>(rows: &[R]) -> bool
-    ensures { Decides result (Rising number rows.now) }
+    ensures { Decides result (Rising R.number rows.now) }
 {
     for i in 1..rows.len() {
         if rows[i - 1].number() >= rows[i].number() {
@@ -34,7 +34,7 @@ pub struct Table<'a, R> {
 impl<'a, R: Row> Table<'a, R> {
     /// The first `len` rows of a slice as a table; none where the slice has fewer, or their keys do not rise.
     pub fn new(rows: &'a mut [R], len: usize) -> Option<Table<'a, R>>
-        ensures { elim result [ Some t ↦ Opened number len rows.old t.len t.rows.now | None ↦ Unopened number len rows.old ] }
+        ensures { elim result [ Some t ↦ Opened R.number len rows.old t.len t.rows.now | None ↦ Unopened R.number len rows.old ] }
     {
         if len > rows.len() || !rises(&rows[0..len]) {
             return None;
@@ -51,7 +51,7 @@ impl<'a, R: Row> Table<'a, R> {
 
     /// The place of the key, or the place where it would stand.
     pub fn find(&self, key: u64) -> Result<usize, usize>
-        ensures { Found number key (take self.now.len self.now.rows.now) result }
+        ensures { Found R.number key (take self.now.len self.now.rows.now) result }
     {
         let len = self.len;
         find_in(self.rows, len, key)
@@ -59,7 +59,7 @@ impl<'a, R: Row> Table<'a, R> {
 
     /// The row that has the key.
     pub fn get(&self, key: u64) -> Option<R>
-        ensures { Got number key (take self.now.len self.now.rows.now) result }
+        ensures { Got R.number key (take self.now.len self.now.rows.now) result }
     {
         let len = self.len;
         get_in(self.rows, len, key)
@@ -67,7 +67,7 @@ impl<'a, R: Row> Table<'a, R> {
 
     /// Inserts the row at its place; refused as by `insert_in`.
     pub fn insert(&mut self, row: R) -> Result<(), TableFault>
-        ensures rows { Inserts number self.old.len row self.old.rows.now result self.new.rows.now }
+        ensures rows { Inserts R.number self.old.len row self.old.rows.now result self.new.rows.now }
         ensures count { self.new.len ≡ count_inserted self.old.len result }
     {
         let len = self.len;
@@ -80,7 +80,7 @@ impl<'a, R: Row> Table<'a, R> {
 
     /// Removes the row that has the key, and answers it; none where no row has it.
     pub fn remove(&mut self, key: u64) -> Option<R>
-        ensures rows { Removes number self.old.len key self.old.rows.now result self.new.rows.now }
+        ensures rows { Removes R.number self.old.len key self.old.rows.now result self.new.rows.now }
         ensures count { self.new.len ≡ count_removed self.old.len result }
     {
         let len = self.len;
@@ -93,7 +93,7 @@ impl<'a, R: Row> Table<'a, R> {
 
     /// Puts the row in the place of that with its key, and answers whether there was one.
     pub fn change(&mut self, row: R) -> bool
-        ensures rows { Changes number self.old.len row self.old.rows.now result self.new.rows.now }
+        ensures rows { Changes R.number self.old.len row self.old.rows.now result self.new.rows.now }
         ensures count { self.new.len ≡ self.old.len }
     {
         let len = self.len;

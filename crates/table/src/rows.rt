@@ -26,7 +26,7 @@ pub enum TableFault {
 
 /// The place of the key among all the rows, or the place where it would stand.
 fn search<R: Row>(rows: &[R], key: u64) -> Result<usize, usize>
-    ensures { Found number key rows.now result }
+    ensures { Found R.number key rows.now result }
 {
     let mut low = 0;
     let mut high = rows.len();
@@ -55,14 +55,14 @@ fn in_use<R: Row>(rows: &[R], len: usize) -> &[R]
 
 /// The place of the key among the rows in use, or the place where it would stand.
 pub fn find_in<R: Row>(rows: &[R], len: usize, key: u64) -> Result<usize, usize>
-    ensures { Found number key (take len rows.now) result }
+    ensures { Found R.number key (take len rows.now) result }
 {
     search(in_use(rows, len), key)
 }
 
 /// The row in use that has the key.
 pub fn get_in<R: Row>(rows: &[R], len: usize, key: u64) -> Option<R>
-    ensures { Got number key (take len rows.now) result }
+    ensures { Got R.number key (take len rows.now) result }
 {
     let used = in_use(rows, len);
     match search(used, key) {

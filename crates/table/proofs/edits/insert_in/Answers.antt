@@ -14,4 +14,4 @@ returns-in-Ok g c =
 
 pub returns-else-len-rows : goal.returns-else-len-rows
 returns-else-len-rows g c =
-    insert_done g.R.Row.number c.args.rows.now c.args.len c.in-Err.place c.number.result c.args.row c.shift-up.new.part c.number.ensures c.in-Err.ensures c.if-len-rows.false c.shift-up.ensures
+    insert_done g.R.Row.number c.args.rows.now c.args.len c.in-Err.place c.number.result c.args.row c.shift_up.new.part c.number.ensures c.in-Err.ensures c.if-len-rows.false c.shift_up.ensures
