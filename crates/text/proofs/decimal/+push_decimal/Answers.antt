@@ -3,7 +3,7 @@ use Rattle.text.proofs.DecimalLaws.{last_digit, only_digit}
 use Rattle.text.proofs.decimal.+push_decimal.Goals as goal
 use Rattle.text.proofs.decimal.+push_decimal.Goals.{then-n-ge-BASE+in_ok-push_decimal, else-n-ge-BASE}
 
-written : (t : ℕ) (c : goal.In-ok-push t) → vec_items c.push.new.self ≡ vec_items c.args.out.now ++ decimal c.args.n
+written : (t : ℕ) (c : goal.In_ok-push t) → vec_items c.push.new.self ≡ vec_items c.args.out.now ++ decimal c.args.n
 written t c =
     elim c.if-n-ge-BASE.branch [
       | then-n-ge-BASE+in_ok-push_decimal w ↦
