@@ -33,4 +33,4 @@ returns g c =
     let k = g.K.ItemKind.meaning c.args.kind.now in
     let text = g.K.ItemText.text c.args.kind.now in
     let told = goes_on k text c.args.bytes.now c.loop-size.index c.loop-size.byte (vec_items c.loop-size.out) (vec_items c.push_piece.new.out) _ c.in_ok-size.field-0 (omega arith) c.loop-size.invariant.2 c.in_ok-size.ensures in
-    sym (append-nil (vec_items c.push_piece.new.out)) ∙ ap (λ (o : Option ℕ). vec_items c.push_piece.new.out ++ what_follows (left k text c.args.bytes.now (c.loop-size.index + 1)) c.loop-size.byte o) (sym c.in-default.is) ∙ told
+    sym (append-nil (vec_items c.push_piece.new.out)) ∙ ap (λ (o : Option ℕ). vec_items c.push_piece.new.out ++ what_follows (left k text c.args.bytes.now (c.loop-size.index + 1)) c.loop-size.byte o) (sym c.in_default.is) ∙ told

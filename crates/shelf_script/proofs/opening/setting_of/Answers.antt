@@ -6,11 +6,11 @@ use Rattle.shelf_script.proofs.Settings.{setting_there, setting_missing}
 use Rattle.shelf_script.proofs.opening.setting_of.Goals as goal
 use Rattle.std.proofs.lemmas.Bool.Decides.{Decides-eqb}
 
-pub returns-in-default : goal.returns-in-default
-returns-in-default c =
+pub returns-in_default : goal.returns-in_default
+returns-in_default c =
     let w = c.args.word.now in
     let name = c.args.name.now in
-    sym (setting_missing name w (λ e. let d = (slice_eq-Decides Decides-eqb (take (length name) w) name false c.in-default.ensures.cases).1 e in d))
+    sym (setting_missing name w (λ e. let d = (slice_eq-Decides Decides-eqb (take (length name) w) name false c.in_default.ensures.cases).1 e in d))
 
 pub returns-in-Some-read_decimal : goal.returns-in-Some-read_decimal
 returns-in-Some-read_decimal c =
