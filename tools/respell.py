@@ -4,7 +4,7 @@
 usage: python3 tools/respell.py     once, at the top of a checkout that the kit's port.py has turned
 
 Names of definitions (CAMEL) are replaced in specs, proofs, clauses, must-fail edits and pages; names of lemmas (HYPHENS)
-only in specs, proofs and ghost items, outside comments. Text in quotes stays. Running it again changes nothing.
+only in specs, proofs and ghost items, outside comments. Names between « and » lose these. Text in quotes stays. Running it again changes nothing.
 """
 
 import os
@@ -32,6 +32,9 @@ withHex withKind withSafe withTail withoutBlanks withoutBlobs writtenAll
 """.split()
 
 HYPHENS = """
+a-at-3 ceiling-one ceiling-two data-too-short dropping-differs end-not-backed keeping-differs offsets-behind
+one-frame-too-many padded-is-bad padded-is-torn reading-on-differs second-blob-alone three-hundred torn-at-5 torn-end
+two-frames up-at-0
 add-tested after-bytes all-between all-cut all-passed all-put allowed-from always-sound always-told
 always-wrote any-call asked-same asked-tells at-end at-unspoken bad-prefix blanks-blank blanks-whole
 blob-refused blobs-more by-piece by-prefix byte-cause bytes-of-number bytes-told change-done change-fits
@@ -97,6 +100,8 @@ def replaced(text, token, names):
 
 
 def respelled(path, text):
+    if path.endswith(".antt"):
+        text = re.sub("«([a-z][\\w-]*)»", lambda m: m[1].replace("-", "_"), text)
     if path.endswith(".rt"):
         ghost = re.compile(r"\s*ghost\s")
         return "\n".join(replaced(line, TOKEN, NAMES) if ghost.match(line) else replaced(line, PLAIN, WORDS) for line in text.split("\n"))

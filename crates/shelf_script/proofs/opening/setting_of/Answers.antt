@@ -10,18 +10,18 @@ pub returns-in_default : goal.returns-in_default
 returns-in_default c =
     let w = c.args.word.now in
     let name = c.args.name.now in
-    sym (setting_missing name w (λ e. let d = (slice_eq-Decides Decides-eqb (take (length name) w) name false c.in_default.ensures.cases).1 e in d))
+    sym (setting_missing name w (λ e. let d = (slice_eq-Decides Decides-eqb (take (length name) w) name false (sym c.in_default.ensures.cases)).1 e in d))
 
 pub returns-in-Some-read_decimal : goal.returns-in-Some-read_decimal
 returns-in-Some-read_decimal c =
     let w = c.args.word.now in
     let name = c.args.name.now in
     let cases = c.in-Some.ensures.cases in
-    sym (setting_there name w c.in-Some.number.now ((slice_eq-Decides Decides-eqb (take (length name) w) name true cases.0).0 refl) cases.1 ∙ ap or_bad_setting (sym c.in-Some-read_decimal.ensures.value))
+    sym (setting_there name w c.in-Some.number.now ((slice_eq-Decides Decides-eqb (take (length name) w) name true (sym cases.0)).0 refl) cases.1 ∙ ap or_bad_setting (sym c.in-Some-read_decimal.ensures.value))
 
 pub returns-in-None : goal.returns-in-None
 returns-in-None c =
     let w = c.args.word.now in
     let name = c.args.name.now in
     let cases = c.in-Some.ensures.cases in
-    sym (setting_there name w c.in-Some.number.now ((slice_eq-Decides Decides-eqb (take (length name) w) name true cases.0).0 refl) cases.1 ∙ ap or_bad_setting (sym c.in-None.ensures.value))
+    sym (setting_there name w c.in-Some.number.now ((slice_eq-Decides Decides-eqb (take (length name) w) name true (sym cases.0)).0 refl) cases.1 ∙ ap or_bad_setting (sym c.in-None.ensures.value))

@@ -5,4 +5,4 @@ use Rattle.shelf_script.proofs.outcome.push_refused.Goals as goal
 
 pub returns : goal.returns
 returns c =
-    joined (vec_items c.args.out.now) (vec_items c.extend-from-slice.new.self) (vec_items c.extend-from-slice-2.new.self) _ c.as-bytes.result.now (cause_name c.args.fault.cause) c.in-ok-extend-from-slice.ensures.items c.in-ok-extend-from-slice-2.ensures.items (c.as-bytes.ensures.value ∙ c.cause-name.ensures)
+    joined (vec_items c.args.out.now) (vec_items c.extend_from_slice.new.self) (vec_items c.extend_from_slice-2.new.self) _ c.as_bytes.result.now (cause_name c.args.fault.cause) c.in_ok-extend_from_slice.ensures.items c.in_ok-extend_from_slice-2.ensures.items (c.as_bytes.ensures.value ∙ c.cause_name.ensures)
