@@ -18,10 +18,10 @@ mod tests {
     #[test]
     fn hexadecimal(rt: HostRuntime) -> Result<(), Fail> {
         let read = read_hex(rt.alloc(), b"04444f574e")?.ok_or("five bytes")?;
-        assert!(rt; read.as_slice() == b"\x04DOWN");
+        assert!(rt; read.as_slice() == b"\x04DOWN".as_slice());
         let mut out = Vec::new(rt.alloc());
         push_hex(&mut out, read.as_slice())?;
-        assert!(rt; out.as_slice() == b"04444F574E");
+        assert!(rt; out.as_slice() == b"04444F574E".as_slice());
         assert!(rt; read_hex(rt.alloc(), b"044")?.is_none(), "an odd digit");
         assert!(rt; read_hex(rt.alloc(), b"0g")?.is_none(), "no digit");
         Ok(())
@@ -35,7 +35,7 @@ mod tests {
             push_decimal(&mut out, n)?;
             assert!(rt; read_decimal(out.as_slice()) == Some(n));
         }
-        assert!(rt; out.as_slice() == b"18446744073709551615");
+        assert!(rt; out.as_slice() == b"18446744073709551615".as_slice());
         let refused: [&[u8]; 5] = [b"", b"00", b"07", b"+1", b"18446744073709551616"];
         for text in refused {
             assert!(rt; read_decimal(text).is_none());
@@ -46,11 +46,11 @@ mod tests {
     #[test]
     fn words(rt: HostRuntime) {
         let first = next_word(b"  scan line\t01");
-        assert!(rt; first.word == b"scan" && first.rest == b" line\t01");
+        assert!(rt; first.word == b"scan".as_slice() && first.rest == b" line\t01".as_slice());
         let second = next_word(first.rest);
-        assert!(rt; second.word == b"line" && second.rest == b"\t01");
+        assert!(rt; second.word == b"line".as_slice() && second.rest == b"\t01".as_slice());
         let third = next_word(second.rest);
-        assert!(rt; third.word == b"01" && third.rest.is_empty());
+        assert!(rt; third.word == b"01".as_slice() && third.rest.is_empty());
         assert!(rt; next_word(b" \t").word.is_empty());
     }
 }
