@@ -1,2 +1,5 @@
+pub mod Entering
+pub mod Goodness
 pub mod Rule
 pub mod Staying
+pub mod Remembering

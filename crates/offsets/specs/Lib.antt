@@ -3,6 +3,4 @@ pub mod Laws
 pub mod Memory
 pub mod Outcomes
 pub mod Questions
-pub mod Remembering
-pub mod Goodness
-pub mod Entering
+pub mod Sound

@@ -1,22 +1,22 @@
 -- Rows in two parts, with one row between them or without it.
 use Rattle.std.proofs.Common.{◌≡◌, ℕ, ◌+◌, ◌<◌, ◌≤◌, cond, eqb, List, [], ◌∷◌, ◌++◌, length, is_some, Some, None, Option, sym, refl, ap, ◌∙◌, subst, arith}
-use Rattle.std.specs.List.{AllByRecursion as All}
+use Rattle.std.specs.List.{AllByRecursion}
 use Rattle.std.proofs.lemmas.List.{length-append}
 use Rattle.std.proofs.lemmas.Bool.{cond-true, cond-false, eq-eqb, ne_eqb, lt-ltb, le-ltb}
 use Rattle.table.specs.Tables.{Rising, Lower, Higher, row_of, inserted, without, changed, Inserted, Removed, Changed}
 
 -- what holds of all rows and of one more holds of all with that one between them
-all_put : {R : Type 0} (P : R → Type 0) (xs : List R) (x : R) (ys : List R) → All P (xs ++ ys) → P x → All P (xs ++ x ∷ ys)
+all_put : {R : Type 0} (P : R → Type 0) (xs : List R) (x : R) (ys : List R) → AllByRecursion P (xs ++ ys) → P x → AllByRecursion P (xs ++ x ∷ ys)
 all_put P [] x ys h p = (p, h)
 all_put P (a ∷ xs) x ys h p = (h.0, all_put P xs x ys h.1 p)
 
 -- what holds of all rows holds of them without one
-all_cut : {R : Type 0} (P : R → Type 0) (xs : List R) (x : R) (ys : List R) → All P (xs ++ x ∷ ys) → All P (xs ++ ys)
+all_cut : {R : Type 0} (P : R → Type 0) (xs : List R) (x : R) (ys : List R) → AllByRecursion P (xs ++ x ∷ ys) → AllByRecursion P (xs ++ ys)
 all_cut P [] x ys h = h.1
 all_cut P (a ∷ xs) x ys h = (h.0, all_cut P xs x ys h.1)
 
 -- what holds of all rows holds of the one between
-all_between : {R : Type 0} (P : R → Type 0) (xs : List R) (x : R) (ys : List R) → All P (xs ++ x ∷ ys) → P x
+all_between : {R : Type 0} (P : R → Type 0) (xs : List R) (x : R) (ys : List R) → AllByRecursion P (xs ++ x ∷ ys) → P x
 all_between P [] x ys h = h.0
 all_between P (a ∷ xs) x ys h = all_between P xs x ys h.1
 

@@ -1,4 +1,4 @@
-use Rattle.offsets.specs.Goodness.{states_stay_good}
+use Rattle.offsets.proofs.Goodness.{states_stay_good}
 use Rattle.offsets.proofs.theorems.states_stay_good.Goals as goal
 
 pub returns : goal.returns
