@@ -1,4 +1,5 @@
 pub mod BigEndian
 pub mod Events
 pub mod Kinds
+pub mod Lawful
 pub mod Spoken
