@@ -1,5 +1,5 @@
 -- The bytes of a blob that were read whole, and its line.
-use Rattle.std.proofs.Common.{◌≡◌, ℕ, ◌+◌, ◌≤◌, false, cond, ltb, List, ◌++◌, length, take, drop, Some, None, Ok, Err, Option, Result, sym, refl, ap, ◌∙◌, subst, arith}
+use Rattle.std.proofs.Common.{◌≡◌, ℕ, ◌+◌, cond, ltb, List, ◌++◌, length, take, drop, Some, None, Ok, Err, Option, Result, sym, refl, ap, ◌∙◌, subst, arith}
 use Rattle.std.proofs.lemmas.List.{take_all, take-append-le}
 use Rattle.std.proofs.lemmas.Bool.{cond-false, le-ltb}
 use Rattle.faults.specs.declared.shelf.ShelfCause.TheVariants.{OutOfRange}
@@ -10,7 +10,7 @@ use Rattle.shelf.specs.Laws.{shelf_rules}
 use Rattle.shelf.specs.Questions.{told, length_of, safe_of, part_of, filled}
 use Rattle.shelf.proofs.Lookups.{found_number}
 use Rattle.shelf_script.specs.Outcomes.{blob_text}
-use Rattle.shelf_script.specs.Prints.{BytesTold, BlobTold, Has, Appended}
+use Rattle.shelf_script.specs.Prints.{BytesTold, BlobTold}
 
 ok_is : {A : Type 0} {x y : A} → ◌≡◌ {A = Result A ShelfFault} (Ok x) (Ok y) → x ≡ y
 ok_is p = cc

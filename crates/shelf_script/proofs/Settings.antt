@@ -1,5 +1,5 @@
 -- A setting is its name and a number behind it.
-use Rattle.std.proofs.Common.{◌≡◌, ℕ, true, false, cond, List, length, take, drop, Err, sym, ap, ◌∙◌, ⊎_elim, arith}
+use Rattle.std.proofs.Common.{◌≡◌, ℕ, true, false, List, length, take, drop, Err, sym, ap, ◌∙◌, ⊎_elim, arith}
 use Rattle.std.specs.Str.{bytes_eq}
 use Rattle.std.proofs.lemmas.Slice.Eq.{bytes_eq-Decides}
 use Rattle.std.proofs.lemmas.Bool.{cond-true, cond-false, cases_Bool}

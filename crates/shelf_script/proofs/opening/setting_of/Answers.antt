@@ -1,6 +1,5 @@
-use Rattle.std.proofs.Common.{◌≡◌, true, false, length, take, drop, Some, None, sym, refl, ap, ◌∙◌}
+use Rattle.std.proofs.Common.{true, false, length, take, sym, refl, ap, ◌∙◌}
 use Rattle.std.proofs.lemmas.Slice.Eq.{slice_eq-Decides}
-use Rattle.text.specs.Decimal.{number_of}
 use Rattle.shelf_script.specs.Openings.{or_bad_setting}
 use Rattle.shelf_script.proofs.Settings.{setting_there, setting_missing}
 use Rattle.shelf_script.proofs.opening.setting_of.Goals as goal

@@ -1,7 +1,5 @@
-use Rattle.std.proofs.Common.{◌≡◌, ℕ, List, ◌++◌, vec_items, Result, sym, ap, ◌∙◌, subst}
-use Rattle.shelf.specs.Shelves.{blob_of}
+use Rattle.std.proofs.Common.{ℕ, List, ◌++◌, vec_items, sym, ap, ◌∙◌}
 use Rattle.shelf_script.specs.Outcomes.{blob_text}
-use Rattle.shelf_script.specs.Prints.{BytesTold}
 use Rattle.shelf_script.proofs.Printing.{line_told}
 use Rattle.shelf_script.proofs.print.push_blob.Goals as goal
 

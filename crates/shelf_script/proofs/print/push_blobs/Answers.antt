@@ -1,8 +1,7 @@
-use Rattle.std.proofs.Common.{◌≡◌, ◌<◌, length, Ok, Err, vec_items, Result, sym, refl, ap, ◌∙◌, subst, arith}
+use Rattle.std.proofs.Common.{◌≡◌, length, Ok, Err, vec_items, sym, refl, ap, ◌∙◌, subst, arith}
 use Rattle.std.proofs.lemmas.Result.{err_from_is_err_and}
 use Rattle.shelf.specs.Questions.{count_of, number_at}
-use Rattle.shelf_script.specs.declared.print.PrintFault.{PrintFault}
-use Rattle.shelf_script.specs.Prints.{AllTold, BlobTold}
+use Rattle.shelf_script.specs.Prints.{AllTold}
 use Rattle.shelf_script.proofs.Listing.{none_yet, one_more, place_there, all_shown, answered, counted, first_refused, blob_refused}
 use Rattle.shelf_script.proofs.print.push_blobs.Goals as goal
 

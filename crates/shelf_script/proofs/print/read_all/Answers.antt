@@ -1,4 +1,4 @@
-use Rattle.std.proofs.Common.{◌≡◌, ℕ, List, length, Ok, vec_items, sym, refl, ap, ◌∙◌, subst, arith}
+use Rattle.std.proofs.Common.{◌≡◌, ℕ, List, length, Ok, vec_items, sym, refl, ap, ◌∙◌, subst}
 use Rattle.shelf.specs.Shelves.{ShelfState}
 use Rattle.shelf.specs.Questions.{part_of, filled}
 use Rattle.shelf_script.proofs.Printing.{bytes_told}

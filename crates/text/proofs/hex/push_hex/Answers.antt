@@ -1,4 +1,4 @@
-use Rattle.std.proofs.Common.{◌≡◌, take, vec_items, sym, ◌∙◌, arith}
+use Rattle.std.proofs.Common.{take, vec_items, ◌∙◌, arith}
 use Rattle.std.proofs.lemmas.Result.{IfOk-from_err}
 use Rattle.text.specs.Hex.{hex_of}
 use Rattle.text.proofs.HexLaws.{reads_back, writes_on, writes_all}
