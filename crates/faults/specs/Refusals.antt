@@ -1,10 +1,10 @@
 -- From a fault to what a user is shown: its layer, its number, its values.
 --
 --   shelf_refusal, offsets_refusal, frame_refusal, recovery_refusal   the refusal of a fault of that layer
---   corruption_detail                                              the kind of a corruption, with the blob of kind 3
---   told                                                          a refusal with a number and no more
---   unnumbered                                                    a fault that no act of the journal lets out
---   damaged                                                       corruption of kind 8: bytes that fit no state
+--   corruption_detail                                                 the kind of a corruption, with the blob of kind 3
+--   told                                                              a refusal with a number and no more
+--   unnumbered                                                        a fault that no act of the journal lets out
+--   damaged                                                           corruption of kind 8: bytes that fit no state
 --
 -- The layer is that of the innermost fault: a fault that is kept inside another has the same refusal.
 -- Assumes nothing.

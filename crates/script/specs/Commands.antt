@@ -1,6 +1,6 @@
 -- What a line of a script asks for.
 --
---   Asked       a command by what it says
+--   Asked        a command by what it says
 --   command_of   the command that a line is, or why it is none
 --   is_end       the words of a line end here: no word is left, or a comment begins
 --

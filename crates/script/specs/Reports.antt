@@ -1,8 +1,8 @@
 -- The lines of a report.
 --
---   labelled                                     a text, and a number behind it
---   spoken_text, event_text                        the text of an item
---   frame_line, end_line, torn_line, refused_line    a line, with the byte 10 that ends it
+--   labelled                                        a text, and a number behind it
+--   spoken_text, event_text                         the text of an item
+--   frame_line, end_line, torn_line, refused_line   a line, with the byte 10 that ends it
 --
 -- Assumes nothing.
 use Rattle.std.specs.Prelude.{ℕ, List, [], ◌∷◌, ◌++◌, Some, None, Ok, Err, codes, decimal, Option, Result}

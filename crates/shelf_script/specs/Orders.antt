@@ -1,6 +1,6 @@
 -- What a line of a script asks of a shelf.
 --
---   Asked       an order by what it says
+--   Asked        an order by what it says
 --   order_of     the order that a line is, or why it is none
 --   number_in    the number that the first word of a text writes
 --   end_in       no word follows

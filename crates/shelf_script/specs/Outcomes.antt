@@ -2,8 +2,8 @@
 --
 --   outcome_line   the line of an accepted or refused order
 --   blobs_text     a line for each blob
---   Obeyed        an order was carried out and answered
---   Answered      a line was answered
+--   Obeyed         an order was carried out and answered
+--   Answered       a line was answered
 --
 -- Assumes nothing.
 use Rattle.std.specs.Prelude.{◌≡◌, ℕ, List, [], ◌∷◌, ◌++◌, Some, None, Ok, Err, codes, Option, Result}

@@ -1,7 +1,7 @@
 -- Rows in rising order of their keys.
 --
 --   Rising     the keys rise strictly
---   row_of      the row with a key, if there is one
+--   row_of     the row with a key, if there is one
 --   inserted   the rows with one more at its place in key order
 --   without    the rows but for the one with a key
 --   changed    the rows with one put in the place of that with the same key
