@@ -10,8 +10,8 @@ pub mod word;
 
 #[cfg(test)]
 mod tests {
-    use crate::decimal::{push_decimal, read_decimal};
-    use crate::hex::{push_hex, read_hex};
+    use crate::decimal::{push_decimal, push_labelled, read_decimal};
+    use crate::hex::{push_bytes, push_hex, read_bytes, read_hex};
     use crate::word::next_word;
     use std::test::Fail;
 
@@ -40,6 +40,19 @@ mod tests {
         for text in refused {
             assert!(rt; read_decimal(text).is_none());
         }
+        Ok(())
+    }
+
+    #[test]
+    fn a_word_of_bytes_and_a_label(rt: HostRuntime) -> Result<(), Fail> {
+        let mut out = Vec::new(rt.alloc());
+        push_bytes(&mut out, b"")?;
+        push_labelled(&mut out, " of ", 7)?;
+        assert!(rt; out.as_slice() == b"- of 7".as_slice());
+        let none = read_bytes(rt.alloc(), b"-")?.ok_or("no bytes")?;
+        assert!(rt; none.is_empty());
+        let one = read_bytes(rt.alloc(), b"0a")?.ok_or("one byte")?;
+        assert!(rt; one.as_slice() == b"\n".as_slice());
         Ok(())
     }
 
