@@ -35,13 +35,13 @@ impl From<ShelfFault> for FrameFault {
     }
 }
 
-impl FrameFault {
-    /// The refusal that this fault is shown as.
-    pub fn refusal(&self) -> Refusal
-        ensures { result ≡ frame_refusal self.now }
-    {
-        let (number, place) = match self {
-            FrameFault::Shelf(fault) => return fault.refusal(),
+/// The refusal that a fault of the reading of frames is shown as.
+impl From<FrameFault> for Refusal {
+    ghost from_gives = { λ e r. r ≡ frame_refusal e };
+
+    fn from(fault: FrameFault) -> Refusal {
+        let (number, place) = match fault {
+            FrameFault::Shelf(shelf) => return Refusal::from(shelf),
             FrameFault::BadPrefix(place) => (11, place),
             FrameFault::ItemUnreadable(place) => (12, place),
         };

@@ -11,12 +11,14 @@
 
 mod frame;
 mod offsets;
+mod reason;
 mod recovery;
 mod refusal;
 mod shelf;
 
 pub use frame::{FrameFault, Place};
 pub use offsets::OffsetsFault;
+pub use reason::Reason;
 pub use recovery::{Corruption, RecoveryFault};
 pub use refusal::{Detail, Layer, Refusal};
 pub use shelf::{ShelfCause, ShelfFault};

@@ -30,13 +30,13 @@ impl From<ShelfFault> for OffsetsFault {
     }
 }
 
-impl OffsetsFault {
-    /// The refusal that this fault is shown as.
-    pub fn refusal(&self) -> Refusal
-        ensures { result ≡ offsets_refusal self.now }
-    {
-        let (number, detail) = match self {
-            OffsetsFault::Shelf(fault) => return fault.refusal(),
+/// The refusal that a fault of an offsets journal is shown as.
+impl From<OffsetsFault> for Refusal {
+    ghost from_gives = { λ e r. r ≡ offsets_refusal e };
+
+    fn from(fault: OffsetsFault) -> Refusal {
+        let (number, detail) = match fault {
+            OffsetsFault::Shelf(shelf) => return Refusal::from(shelf),
             OffsetsFault::Full => (Some(5), Detail::Nothing),
             OffsetsFault::Down => (Some(13), Detail::Nothing),
             OffsetsFault::Damaged => (Some(10), Detail::Kind(8)),

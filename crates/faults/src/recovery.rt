@@ -2,11 +2,12 @@
 
 ghost use Rattle.std.specs.Prelude.{◌≡◌};
 ghost use Rattle.faults.specs.declared.frame.FrameFault.TheVariants.{Shelf};
-ghost use Rattle.faults.specs.declared.recovery.RecoveryFault.TheVariants.{Frame, Offsets};
+ghost use Rattle.faults.specs.declared.recovery.RecoveryFault.TheVariants.{Frame, ItemRefused, Offsets};
 ghost use Rattle.faults.specs.Refusals.{corruption_detail, recovery_refusal};
 
 use crate::frame::FrameFault;
 use crate::offsets::OffsetsFault;
+use crate::reason::Reason;
 use crate::refusal::{Detail, Layer, Refusal};
 use crate::shelf::ShelfFault;
 
@@ -39,7 +40,7 @@ pub enum RecoveryFault {
     /// 3: the journal is not open.
     NotOpen,
     /// 4: the item kind refuses the item, for this reason.
-    ItemRefused(u8),
+    ItemRefused(Reason),
     /// 5: no blob is left for the next record.
     NoSpace,
     /// 6: a position above 2^56.
@@ -83,18 +84,23 @@ impl From<ShelfFault> for RecoveryFault {
     }
 }
 
-impl Corruption {
-    /// The kind, 1 to 7, with the blob that kind 3 names.
-    pub fn detail(&self) -> Detail
-        ensures { result ≡ corruption_detail self.now }
-    {
-        match self {
+impl From<Reason> for RecoveryFault {
+    ghost from_gives = { λ e r. r ≡ ItemRefused e };
+
+    fn from(lower: Reason) -> RecoveryFault {
+        RecoveryFault::ItemRefused(lower)
+    }
+}
+
+/// The kind of a corruption, 1 to 7, with the blob that kind 3 names.
+impl From<Corruption> for Detail {
+    ghost from_gives = { λ c r. r ≡ corruption_detail c };
+
+    fn from(corruption: Corruption) -> Detail {
+        match corruption {
             Corruption::OffsetsBehindData => Detail::Kind(1),
             Corruption::BoundaryAboveOldest => Detail::Kind(2),
-            Corruption::MissingBlob(blob) => Detail::KindOfBlob {
-                kind: 3,
-                blob: *blob,
-            },
+            Corruption::MissingBlob(blob) => Detail::KindOfBlob { kind: 3, blob },
             Corruption::DataTooShort => Detail::Kind(4),
             Corruption::BlobOverfull => Detail::Kind(5),
             Corruption::OffsetsWithoutData => Detail::Kind(6),
@@ -103,24 +109,24 @@ impl Corruption {
     }
 }
 
-impl RecoveryFault {
-    /// The refusal that this fault is shown as.
-    pub fn refusal(&self) -> Refusal
-        ensures { result ≡ recovery_refusal self.now }
-    {
-        let (number, detail) = match self {
-            RecoveryFault::Frame(fault) => return fault.refusal(),
-            RecoveryFault::Offsets(fault) => return fault.refusal(),
+/// The refusal that a fault of an act of the journal is shown as.
+impl From<RecoveryFault> for Refusal {
+    ghost from_gives = { λ e r. r ≡ recovery_refusal e };
+
+    fn from(fault: RecoveryFault) -> Refusal {
+        let (number, detail) = match fault {
+            RecoveryFault::Frame(frame) => return Refusal::from(frame),
+            RecoveryFault::Offsets(offsets) => return Refusal::from(offsets),
             RecoveryFault::ItemPruned => (1, Detail::Nothing),
             RecoveryFault::ItemOutOfRange => (2, Detail::Nothing),
             RecoveryFault::NotOpen => (3, Detail::Nothing),
-            RecoveryFault::ItemRefused(reason) => (4, Detail::Reason(*reason)),
+            RecoveryFault::ItemRefused(reason) => (4, Detail::Reason(reason)),
             RecoveryFault::NoSpace => (5, Detail::Nothing),
             RecoveryFault::PositionLimit => (6, Detail::Nothing),
             RecoveryFault::ShortBuffer => (7, Detail::Nothing),
             RecoveryFault::Config => (8, Detail::Nothing),
             RecoveryFault::OffsetOverflow => (9, Detail::Nothing),
-            RecoveryFault::Corrupt(corruption) => (10, corruption.detail()),
+            RecoveryFault::Corrupt(corruption) => (10, Detail::from(corruption)),
         };
         Refusal {
             layer: Layer::Recovery,

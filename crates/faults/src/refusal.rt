@@ -1,5 +1,11 @@
 //! What a refusal tells: which layer found the fault, its number, and the values beside it.
 
+ghost use Rattle.std.specs.Prelude.{Some};
+ghost use Rattle.faults.specs.Texts.{detail_text, refusal_text};
+
+use crate::reason::Reason;
+use std::fmt;
+
 /// The layer that found a fault.
 #[derive(Clone, Copy, PartialEq, Eq)]
 pub enum Layer {
@@ -16,11 +22,13 @@ pub enum Layer {
 pub enum Detail {
     /// The number says it all.
     Nothing,
-    /// The number of the reason for which an item kind refuses an item.
-    Reason(u8),
+    /// The reason for which an item kind refuses an item.
+    Reason(Reason),
     /// The kind of a corruption.
+    // Kinds are a closed list that users and other programs know: `Corruption` is the fault, and `From` the one table to its kind.
     Kind(u8),
     /// The kind of a corruption, and the blob that it names.
+    // A kind as above, shown with a blob.
     KindOfBlob { kind: u8, blob: u64 },
     /// The blob, and the byte in it where the frame begins.
     Byte { blob: u64, byte: u64 },
@@ -32,7 +40,34 @@ pub struct Refusal {
     /// The layer of the innermost fault.
     pub layer: Layer,
     /// 1 to 13; none for a fault that no act of the journal lets out.
+    // Numbers are a closed list that users and other programs know: the enums are the faults, and `From` the one table to their numbers.
     pub number: Option<u8>,
     /// The values that go with the number.
     pub detail: Detail,
+}
+
+impl fmt::Display for Detail {
+    ghost output = { λ d. Some (detail_text d) };
+
+    fn fmt<W: fmt::Write>(&self, f: &mut fmt::Formatter<W>) -> fmt::Result {
+        match *self {
+            Detail::Nothing => Ok(()),
+            Detail::Reason(reason) => write!(f, " reason {}", reason.number),
+            Detail::Kind(kind) => write!(f, " kind {kind}"),
+            Detail::KindOfBlob { kind, blob } => write!(f, " kind {kind} blob {blob}"),
+            Detail::Byte { blob, byte } => write!(f, " blob {blob} byte {byte}"),
+        }
+    }
+}
+
+impl fmt::Display for Refusal {
+    ghost output = { λ r. Some (refusal_text r) };
+
+    fn fmt<W: fmt::Write>(&self, f: &mut fmt::Formatter<W>) -> fmt::Result {
+        f.write_str("refused")?;
+        if let Some(number) = self.number {
+            write!(f, " {number}")?;
+        }
+        write!(f, "{}", self.detail)
+    }
 }

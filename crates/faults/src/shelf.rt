@@ -1,9 +1,11 @@
 //! Faults of a shelf, a store of numbered blobs.
 
-ghost use Rattle.std.specs.Prelude.{◌≡◌};
+ghost use Rattle.std.specs.Prelude.{◌≡◌, Some};
 ghost use Rattle.faults.specs.Refusals.{shelf_refusal};
+ghost use Rattle.faults.specs.Texts.{cause_name};
 
 use crate::refusal::{Detail, Layer, Refusal};
+use std::fmt;
 
 /// Why a shelf refused a call, or could not carry it out.
 #[derive(Clone, Copy, PartialEq, Eq)]
@@ -33,12 +35,28 @@ pub struct ShelfFault {
     pub blob: u64,
 }
 
-impl ShelfFault {
-    /// The refusal that this fault is shown as.
-    pub fn refusal(&self) -> Refusal
-        ensures { result ≡ shelf_refusal self.now }
-    {
-        let (number, detail) = match self.cause {
+impl fmt::Display for ShelfCause {
+    ghost output = { λ c. Some (cause_name c) };
+
+    fn fmt<W: fmt::Write>(&self, f: &mut fmt::Formatter<W>) -> fmt::Result {
+        f.write_str(match self {
+            ShelfCause::Missing => "missing",
+            ShelfCause::Present => "present",
+            ShelfCause::Full => "full",
+            ShelfCause::TooLong => "too-long",
+            ShelfCause::OutOfRange => "out-of-range",
+            ShelfCause::Down => "down",
+            ShelfCause::Damaged => "damaged",
+        })
+    }
+}
+
+/// The refusal that a fault of a shelf is shown as.
+impl From<ShelfFault> for Refusal {
+    ghost from_gives = { λ e r. r ≡ shelf_refusal e };
+
+    fn from(fault: ShelfFault) -> Refusal {
+        let (number, detail) = match fault.cause {
             ShelfCause::Full => (Some(5), Detail::Nothing),
             ShelfCause::Down => (Some(13), Detail::Nothing),
             ShelfCause::Damaged => (Some(10), Detail::Kind(8)),
