@@ -1,4 +1,3 @@
 pub mod Chains
-pub mod Lines
 pub mod Numbers
 pub mod Records

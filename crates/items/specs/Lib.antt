@@ -3,3 +3,4 @@ pub mod Events
 pub mod Kinds
 pub mod Lawful
 pub mod Spoken
+pub mod Texts
