@@ -1,5 +1,4 @@
-pub mod Halving
-pub mod Neighbours
+pub mod Climbs
+pub mod Keys
 pub mod Places
 pub mod Shifts
-pub mod Splits

@@ -1,43 +1,136 @@
--- An edit at a place of the rows in use.
-use Rattle.std.proofs.Common.{◌≡◌, ℕ, zero, suc, ◌+◌, ◌<◌, true, eqb, List, [], ◌∷◌, ◌++◌, length, get_or, take, drop, set, is_some, Some, Option, sym, refl, ap, ◌∙◌, subst, arith}
-use Rattle.std.proofs.lemmas.List.{take-append-drop, set_split}
-use Rattle.std.proofs.lemmas.Bool.{cond-true, cond_both, eq-eqb}
-use Rattle.table.specs.Tables.{Rising, row_of, FoundAt, MissedAt, Inserted, Removed, Changed}
-use Rattle.table.proofs.Splits.{inserts_between, removes_between, changes_between}
-use Rattle.table.proofs.Halving.{split_at}
+-- Where a search for a key ends among rows, and what an edit at that place makes of rows that rise.
+use Rattle.std.proofs.Common.{◌≡◌, ℕ, ◌+◌, ◌-◌, ◌<◌, ◌≤◌, ◌≢◌, Bool, true, false, ltb, Decides, List, [], ◌∷◌, length, get_or, take, drop, set, Some, None, Ok, Err, Result, sym, refl, ap, ◌∙◌, subst, add-one, arith}
+use Rattle.std.specs.List.{AllAdjacentBelow, IsAllAdjacentAnswer, insert, remove}
+use Rattle.std.specs.List.Sorted.{IsSearchInRange, IsBinarySearchResult, IsNonDecreasingBy}
+use Rattle.std.specs.Result.{result_ok}
+use Rattle.std.specs.Ordering.{nat_cmp, ordering_index}
+use Rattle.std.proofs.lemmas.Bool.{false≢true}
+use Rattle.std.proofs.lemmas.Bool.Decides.{nat_tests}
+use Rattle.std.proofs.lemmas.Cmp.{ranked}
+use Rattle.std.proofs.lemmas.Grind.{common_steps}
+use Rattle.std.proofs.lemmas.List.{length-take-le, take_at, take-set, get_or-set_same, length-set}
+use Rattle.std.proofs.lemmas.List.Edits.{length-insert, get_or-insert_below, get_or-insert_at, get_or-insert_above, length-remove}
+use Rattle.std.proofs.lemmas.List.Elements.{All-append}
+use Rattle.std.proofs.lemmas.List.Quantifiers.{all_pairs_remove}
+use Rattle.std.proofs.lemmas.List.Sorted.{IsNonDecreasingBy-from_all_adjacent}
+use Rattle.table.specs.Tables.{Rising, Lower, Higher, row_of, FoundAt, MissedAt, Found, Inserted, Removed, Changed}
+use Rattle.table.proofs.Keys.{row_of-absent, row_of-at, row_of-some, row_of-insert, row_of-remove, row_of-set, inserted-at, without-at, changed-at}
 
-module _ {R : Type 0} (key : R → ℕ) where
-  -- where a row has the key, some row is the one of that key
-  some_at : (k : ℕ) (rows : List R) (i : ℕ) (d : R) → i < length rows → key (get_or rows i d) ≡ k → is_some (row_of key k rows) ≡ true
-  some_at k [] i d h e = absurd (omega arith)
-  some_at k (x ∷ xs) zero d h e = ap is_some (cond-true _ _ _ (eq-eqb (key x) k e))
-  some_at k (x ∷ xs) (suc i) d h e =
-      cond_both (eqb (key x) k) (Some x) (row_of key k xs) (λ (o : Option R). is_some o ≡ true) (λ _. refl) (λ _. some_at k xs i d (omega arith) e)
+module _ {R : Type 0} (key : R → ℕ) (k : ℕ) (rows : List R) where
+  -- of rows that rise, those before one have lower keys
+  pub lower_before : (i : ℕ) (d : R) → i < length rows → key (get_or rows i d) ≡ k → Rising key rows → Lower key k (take i rows)
+  lower_before i d h e up j x lt = grind (arith, common_steps, up j i x)
 
-  -- what is found is there, whether the rows rise or not
-  pub found_some : (k : ℕ) (rows : List R) (i : ℕ) → FoundAt key k rows i → is_some (row_of key k rows) ≡ true
-  found_some k [] i f = absurd (omega (arith, f.within))
-  found_some k (x ∷ xs) i f = some_at k (x ∷ xs) i x f.within (f.hit x)
+  -- and those behind it higher ones
+  pub higher_behind : (i : ℕ) (d : R) → i < length rows → key (get_or rows i d) ≡ k → Rising key rows → Higher key k (drop (i + 1) rows)
+  higher_behind i d h e up j x lt = grind (arith, common_steps, up i (i + 1 + j) x)
 
-  -- a row put where a search missed its key
-  pub inserts_at : (row : R) (old new : List R) (i : ℕ) → MissedAt key (key row) old i → new ≡ take i old ++ row ∷ drop i old → Rising key old → Inserted key row old new
-  inserts_at row old new i m e up =
-      let whole : take i old ++ drop i old ≡ old = take-append-drop i old in
-      let done = inserts_between key row (take i old) (drop i old) (subst (λ (z : List R). Rising key z) (sym whole) up) (m.lower up) (m.higher up) in
-      subst (λ (z : List R). Inserted key row old z) (sym e) (subst (λ (z : List R). Inserted key row z (take i old ++ row ∷ drop i old)) whole done)
+  -- no row has a key that lies between two places
+  pub row_of-gap : (i j : ℕ) → i ≤ j → Lower key k (take i rows) → Higher key k (drop i rows) → row_of key k rows ≡ None
+  row_of-gap i j le low high = row_of-absent key k rows (λ m d h same. grind (arith, common_steps, low m d, high (m - i) d))
 
-  -- the row taken out that a search found
-  pub removes_at : (k : ℕ) (row : R) (old new : List R) (i : ℕ) → i < length old → row ≡ get_or old i row → key row ≡ k → new ≡ take i old ++ drop (i + 1) old → Rising key old → Removed key k row old new
-  removes_at k row old new i h is own e up =
-      let whole : old ≡ take i old ++ row ∷ drop (i + 1) old = split_at old i row h is in
-      let done = removes_between key k (take i old) row (drop (i + 1) old) own (subst (λ (z : List R). Rising key z) whole up) in
-      subst (λ (z : List R). Removed key k row old z) (sym e) (subst (λ (z : List R). Removed key k row z (take i old ++ drop (i + 1) old)) (sym whole) done)
+  -- the comparisons with a key rise along rows that do, as a search asks
+  comparisons_rise : Rising key rows → IsNonDecreasingBy (λ r. ordering_index (nat_cmp (key r) k)) rows
+  comparisons_rise up i j d le h =
+      let keys : key (get_or rows i d) ≤ key (get_or rows j d) = grind (arith, up i j d, λ (same : i ≡ j). ap (λ (z : ℕ). key (get_or rows z d)) same) in
+      grind (arith, nat_tests)
 
-  -- a row put in the place of the one that a search found
-  pub changes_at : (row x : R) (old : List R) (i : ℕ) → i < length old → x ≡ get_or old i x → key x ≡ key row → Rising key old → Changed key row old (set old i row)
-  changes_at row x old i h is own up =
-      let whole : old ≡ take i old ++ x ∷ drop (i + 1) old = split_at old i x h is in
-      let one : suc i ≡ i + 1 = omega arith in
-      let e : set old i row ≡ take i old ++ row ∷ drop (i + 1) old = set_split old i row h ∙ ap (λ (z : ℕ). take i old ++ row ∷ drop z old) one in
-      let done = changes_between key row (take i old) x (drop (i + 1) old) own (subst (λ (z : List R). Rising key z) whole up) in
-      subst (λ (z : List R). Changed key row old z) (sym e) (subst (λ (z : List R). Changed key row z (take i old ++ row ∷ drop (i + 1) old)) (sym whole) done)
+  -- a row with the key is found
+  pub found_at : (i : ℕ) → i < length rows → ((d : R) → key (get_or rows i d) ≡ k) → FoundAt key k rows i
+  found_at i h hit = record {
+    within = h;
+    hit = hit;
+    row = λ up d. row_of-at key k rows i d h (hit d) (lower_before i d h (hit d) up);
+  }
+
+  -- the place that an answer tells
+  pub found_ok : (r : Result ℕ ℕ) (i : ℕ) → Found key k rows r → Some i ≡ result_ok r → FoundAt key k rows i
+  found_ok (Ok j) i found e = subst (λ (z : ℕ). FoundAt key k rows z) (grind arith) found
+  found_ok (Err j) i found e = grind arith
+
+  -- what a search by key answers, of any rows and of those that rise
+  pub searched : (r : Result ℕ ℕ) → IsSearchInRange r (length rows) → IsBinarySearchResult (λ x. nat_cmp (key x) k) rows r → Found key k rows r
+  searched (Ok i) within equal = found_at i within (λ d. ranked _ k _ (sym (equal d)))
+  searched (Err i) within parted =
+      let low : Rising key rows → Lower key k (take i rows) = λ up j d h. grind (arith, common_steps, nat_tests, (parted (comparisons_rise up)).0 j d) in
+      let high : Rising key rows → Higher key k (drop i rows) = λ up j d h. grind (arith, common_steps, nat_tests, (parted (comparisons_rise up)).1 (i + j) d) in
+      record { within = within; lower = low; higher = high; row = λ up. row_of-gap i i (omega arith) (low up) (high up) }
+
+module _ {R : Type 0} (key : R → ℕ) (rows : List R) where
+  -- keys that rise from each row to the next rise from each to all behind it
+  rising_near : AllAdjacentBelow (λ x y. key x < key y) rows (length rows) → Rising key rows
+  rising_near near i j d lt h =
+      let far = IsNonDecreasingBy-from_all_adjacent key rows (λ m e l. let one = near m e l in omega (arith, one)) in
+      omega (arith, near i d (omega arith), far (i + 1) j d (omega arith) h)
+
+  -- what a test of each row and the next tells
+  pub rising_tested : (r : Bool) → IsAllAdjacentAnswer (λ x y b. b ≡ ltb (key x) (key y)) rows r → Decides r (Rising key rows)
+  rising_tested true near = (λ _. rising_near (λ m d h. grind (arith, nat_tests, near m d h)), λ _. refl)
+  rising_tested false (m, h, falls) = (λ e. absurd (false≢true e), λ up. absurd (no_row rows (λ d. grind (arith, nat_tests, falls d, up m (m + 1) d)) (omega arith)))
+    where
+      -- no row at all
+      no_row : (xs : List R) → (R → ⊥) → 0 < length xs → ⊥
+      no_row [] none some = omega arith
+      no_row (x ∷ xs) none some = none x
+
+  module _ (i : ℕ) (y d : R) where
+    -- rows that rise still do with one put between lower and higher ones
+    rising_insert : i ≤ length rows → Lower key (key y) (take i rows) → Higher key (key y) (drop i rows) → Rising key rows → Rising key (insert rows i y)
+    rising_insert h low high up m n e lt within =
+        let new = insert rows i y in
+        let long : length new ≡ length rows + 1 = length-insert rows i y h in
+        let below : (q : ℕ) → q < i → key (get_or new q e) ≡ key (get_or rows q e) = λ q l. ap key (get_or-insert_below rows i y e q l h) in
+        let here : (q : ℕ) → q ≡ i → key (get_or new q e) ≡ key y = λ q l. rw l (ap key (get_or-insert_at rows i y e h)) in
+        let above : (q : ℕ) → i < q → key (get_or new q e) ≡ key (get_or rows (q - 1) e) = λ q l. subst (λ (z : ℕ). key (get_or new z e) ≡ key (get_or rows (q - 1) e)) {x = q - 1 + 1} (omega arith) (ap key (get_or-insert_above rows i y e (q - 1) (omega arith) h)) in
+        let lower : (q : ℕ) → q < i → key (get_or rows q e) < key y = λ q l. grind (arith, common_steps, low q e) in
+        let higher : (q : ℕ) → i ≤ q → q < length rows → key y < key (get_or rows q e) = λ q l k. grind (arith, common_steps, high (q - i) e) in
+        grind (arith, below m, here m, above m, below n, here n, above n, up m n, up m (n - 1), up (m - 1) (n - 1), lower m, higher (n - 1))
+
+    -- and with one in the place of another that has its key
+    rising_set : i < length rows → key (get_or rows i d) ≡ key y → Rising key rows → Rising key (set rows i y)
+    rising_set h e up m n x lt within = grind (arith, common_steps, up m n x, up m i x, up i n x)
+
+    -- a row put where a search missed its key
+    pub inserts_at : MissedAt key (key y) rows i → Rising key rows → Inserted key y rows (insert rows i y)
+    inserts_at m up =
+        let new = insert rows i y in
+        let low : Lower key (key y) (take i rows) = m.lower up in
+        let front : take i new ≡ take i rows = take_at (take i rows) (y ∷ drop i rows) i (length-take-le i rows m.within) in
+        let here : get_or new i y ≡ y = get_or-insert_at rows i y y m.within in
+        let long : length new ≡ length rows + 1 = length-insert rows i y m.within in
+        record {
+          rows = inserted-at key y rows i low (m.higher up);
+          order = rising_insert m.within low (m.higher up) up;
+          count = long;
+          missed = m.row up;
+          own = row_of-at key (key y) new i y (omega (arith, m.within)) (ap key here) (subst (λ (z : List R). Lower key (key y) z) (sym front) low) ∙ ap (λ (z : R). Some z) here;
+          others = λ k ne. row_of-insert key k rows i y ne;
+        }
+
+    -- the row taken out that a search found
+    pub removes_at : (k : ℕ) → FoundAt key k rows i → Rising key rows → Removed key k (get_or rows i d) rows (remove rows i)
+    removes_at k f up =
+        let low : Lower key k (take i rows) = lower_before key k rows i d f.within (f.hit d) up in
+        let high : Higher key k (drop (i + 1) rows) = higher_behind key k rows i d f.within (f.hit d) up in
+        record {
+          rows = without-at key k rows i d f.within (f.hit d) low;
+          order = all_pairs_remove (λ r s. key r < key s) rows i f.within up;
+          count = length-remove rows i f.within;
+          was = f.row up d;
+          own = row_of-absent key k (remove rows i) (rw (← add-one i) (All-append (λ r. key r ≢ k) (take i rows) (drop (i + 1) rows) (λ j e h. let l = low j e h in omega (arith, l)) (λ j e h. let l = high j e h in omega (arith, l))));
+          others = λ j ne. row_of-remove key j rows i d f.within (λ e. ne (e ∙ f.hit d));
+        }
+
+    -- a row put in the place of the one that a search found
+    pub changes_at : FoundAt key (key y) rows i → Rising key rows → Changed key y rows (set rows i y)
+    changes_at f up =
+        let low : Lower key (key y) (take i rows) = lower_before key (key y) rows i d f.within (f.hit d) up in
+        let here : get_or (set rows i y) i y ≡ y = get_or-set_same rows i y y f.within in
+        record {
+          rows = changed-at key y rows i d f.within (f.hit d) low;
+          order = rising_set f.within (f.hit d) up;
+          count = length-set rows i y;
+          was = row_of-some key (key y) rows i d f.within (f.hit d);
+          own = row_of-at key (key y) (set rows i y) i y (omega (arith, f.within, length-set rows i y)) (ap key here) (subst (λ (z : List R). Lower key (key y) z) (sym (take-set rows i y)) low) ∙ ap (λ (z : R). Some z) here;
+          others = λ k ne. row_of-set key k rows i y d f.within (f.hit d) ne;
+        }

@@ -8,7 +8,7 @@
 --   Opened, Unopened   a table was made of the first rows of a slice, or could not be
 --
 -- Assumes nothing.
-use Rattle.std.specs.Prelude.{◌≡◌, ℕ, ◌+◌, ◌-◌, ◌<◌, ◌≤◌, min, Bool, true, false, List, length, take, drop, is_some, Some, None, Ok, Err, Option, Result}
+use Rattle.std.specs.Prelude.{◌≡◌, ℕ, ◌+◌, ◌-◌, ◌<◌, ◌≤◌, min, Bool, true, false, List, ◌∷◌, length, take, drop, is_some, Some, None, Ok, Err, Option, Result}
 use Rattle.table.specs.declared.rows.TableFault.{TableFault}
 use Rattle.table.specs.declared.rows.TableFault.TheVariants.{Present, Full}
 use Rattle.table.specs.Tables.{Rising, row_of, Inserted, Removed, Changed}
@@ -37,12 +37,13 @@ module _ {R : Type 0} (key : R → ℕ) where
   Inserts len row before (Err Present) after = InsertPresent len row before after
   Inserts len row before (Err Full) after = InsertFull len row before after
 
-  -- the row with the key k was removed, and one less is in use
+  -- the row with the key k was removed, and one less is in use; it stands right behind those
   pub record RemoveDone (len k : ℕ) (row : R) (before after : List R) : Type 0 where
     pub held : 0 < min len (length before)
     pub own : key row ≡ k
     pub used : Rising key (take len before) → Removed key k row (take len before) (take (min len (length before) - 1) after)
     pub rest : drop len after ≡ drop len before
+    pub gone : drop (min len (length before) - 1) after ≡ row ∷ drop len before
 
   -- refused since no row in use has the key k
   pub record Missing (len k : ℕ) (before after : List R) : Type 0 where

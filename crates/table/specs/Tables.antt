@@ -12,21 +12,20 @@
 --
 -- Assumes nothing.
 use Rattle.std.specs.Prelude.{◌≡◌, ℕ, ◌+◌, ◌<◌, ◌≤◌, true, cond, List, [], ◌∷◌, length, take, drop, is_some, Some, None, Ok, Err, Option, Result, ◌==◌, ◌≢◌, nat_lt, slice_index_or}
-use Rattle.std.specs.List.{AllByRecursion}
+use Rattle.std.specs.List.{All, AllPairs}
 
 module _ {R : Type 0} (key : R → ℕ) where
   -- each row has a lower key than all behind it
   abbrev pub Rising : List R → Type 0
-  Rising [] = Unit {0}
-  Rising (r ∷ rs) = AllByRecursion (λ s. key r < key s) rs × Rising rs
+  Rising rows = AllPairs (λ r s. key r < key s) rows
 
   -- each of the rows has a key below k
   abbrev pub Lower : ℕ → List R → Type 0
-  Lower k rows = AllByRecursion (λ r. key r < k) rows
+  Lower k rows = All (λ r. key r < k) rows
 
   -- each of the rows has a key above k
   abbrev pub Higher : ℕ → List R → Type 0
-  Higher k rows = AllByRecursion (λ r. k < key r) rows
+  Higher k rows = All (λ r. k < key r) rows
 
   -- the first row whose key is k
   abbrev pub row_of : ℕ → List R → Option R

@@ -8,50 +8,20 @@ ghost use Rattle.table.specs.Slices.{Inserts, Removes, Changes};
 
 use crate::rows::{Row, TableFault, find_in};
 
-/// Puts the row in front of a part, whose last row goes.
-fn shift_up<R: Row>(part: &mut [R], row: R)
-    requires { 0 < length part.old }
-    ensures { part.new ≡ row ∷ take (length part.old - 1) part.old }
-{
-    let last = part.len() - 1;
-    part[last] = row;
-    part.rotate_right(1);
-}
-
-/// Moves the first row of a part behind the others, and answers it.
-fn shift_down<R: Row>(part: &mut [R]) -> R
-    requires { 0 < length part.old }
-    ensures first { result ≡ slice_index_or part.old 0 result }
-    ensures after { part.new ≡ drop 1 part.old ++ take 1 part.old }
-{
-    let first = part[0];
-    part.rotate_left(1);
-    first
-}
-
-/// Puts the row at a place.
-fn put_at<R: Row>(rows: &mut [R], place: usize, row: R)
-    requires { place < length rows.old }
-    ensures { rows.new ≡ slice_set rows.old place row }
-{
-    rows[place] = row;
-}
-
 /// Inserts the row at its place among those in use, of which there is then one more. Refused as `Present` where one in
 /// use has its key, and else as `Full` where all of the slice is in use.
 pub fn insert_in<R: Row>(rows: &mut [R], len: usize, row: R) -> Result<(), TableFault>
     ensures { Inserts R.number len row rows.old result rows.new }
 {
-    match find_in(rows, len, row.number()) {
-        Ok(_) => Err(TableFault::Present),
-        Err(place) => {
-            if len >= rows.len() {
-                return Err(TableFault::Full);
-            }
-            shift_up(&mut rows[place..len + 1], row);
-            Ok(())
-        }
+    let Err(place) = find_in(rows, len, row.number()) else {
+        return Err(TableFault::Present);
+    };
+    if len >= rows.len() {
+        return Err(TableFault::Full);
     }
+    rows[len] = row;
+    rows[place..=len].rotate_right(1);
+    Ok(())
 }
 
 /// Removes the row in use that has the key, and answers it; there is then one less in use. None where no row has it.
@@ -59,23 +29,21 @@ pub fn remove_in<R: Row>(rows: &mut [R], len: usize, key: u64) -> Option<R>
     ensures { Removes R.number len key rows.old result rows.new }
 {
     let len = len.min(rows.len());
-    match find_in(rows, len, key) {
-        Ok(place) => Some(shift_down(&mut rows[place..len])),
-        Err(_) => None,
-    }
+    let place = find_in(rows, len, key).ok()?;
+    let row = rows[place];
+    rows[place..len].rotate_left(1);
+    Some(row)
 }
 
 /// Puts the row in the place of that in use which has its key, and answers whether there was one.
 pub fn change_in<R: Row>(rows: &mut [R], len: usize, row: R) -> bool
     ensures { Changes R.number len row rows.old result rows.new }
 {
-    match find_in(rows, len, row.number()) {
-        Ok(place) => {
-            put_at(rows, place, row);
-            true
-        }
-        Err(_) => false,
-    }
+    let Ok(place) = find_in(rows, len, row.number()) else {
+        return false;
+    };
+    rows[place] = row;
+    true
 }
 
 #[cfg(test)]

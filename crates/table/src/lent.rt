@@ -14,12 +14,7 @@ use crate::rows::{Row, TableFault, find_in, get_in};
 fn rises<R: Row>(rows: &[R]) -> bool
     ensures { Decides result (Rising R.number rows.now) }
 {
-    for i in 1..rows.len() {
-        if rows[i - 1].number() >= rows[i].number() {
-            return false;
-        }
-    }
-    true
+    rows.is_sorted_by(|a, b| a.number() < b.number())
 }
 
 /// The rows in use of a lent slice, in rising order of their keys.
@@ -36,7 +31,7 @@ impl<'a, R: Row> Table<'a, R> {
     pub fn new(rows: &'a mut [R], len: usize) -> Option<Table<'a, R>>
         ensures { elim result [ Some t ↦ Opened R.number len rows.old t.len t.rows.now | None ↦ Unopened R.number len rows.old ] }
     {
-        if len > rows.len() || !rises(&rows[0..len]) {
+        if len > rows.len() || !rises(&rows[..len]) {
             return None;
         }
         Some(Table { rows, len })
@@ -71,11 +66,9 @@ impl<'a, R: Row> Table<'a, R> {
         ensures count { self.new.len ≡ count_inserted self.old.len result }
     {
         let len = self.len;
-        let done = insert_in(self.rows, len, row);
-        if done.is_ok() {
-            self.len = len + 1;
-        }
-        done
+        insert_in(self.rows, len, row)?;
+        self.len = len + 1;
+        Ok(())
     }
 
     /// Removes the row that has the key, and answers it; none where no row has it.
@@ -84,11 +77,9 @@ impl<'a, R: Row> Table<'a, R> {
         ensures count { self.new.len ≡ count_removed self.old.len result }
     {
         let len = self.len;
-        let gone = remove_in(self.rows, len, key);
-        if gone.is_some() {
-            self.len = len - 1;
-        }
-        gone
+        let row = remove_in(self.rows, len, key)?;
+        self.len = len - 1;
+        Some(row)
     }
 
     /// Puts the row in the place of that with its key, and answers whether there was one.

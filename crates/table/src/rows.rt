@@ -28,29 +28,14 @@ pub enum TableFault {
 fn search<R: Row>(rows: &[R], key: u64) -> Result<usize, usize>
     ensures { Found R.number key rows.now result }
 {
-    let mut low = 0;
-    let mut high = rows.len();
-    while low < high {
-        let middle = low + (high - low) / 2;
-        let at = rows[middle].number();
-        if at == key {
-            return Ok(middle);
-        }
-        if at < key {
-            low = middle + 1;
-        } else {
-            high = middle;
-        }
-    }
-    Err(low)
+    rows.binary_search_by_key(&key, |row| row.number())
 }
 
 /// The rows in use: the first `len`, or all where `len` is larger.
 fn in_use<R: Row>(rows: &[R], len: usize) -> &[R]
     ensures { result.now ≡ take len rows.now }
 {
-    let len = len.min(rows.len());
-    &rows[0..len]
+    &rows[..len.min(rows.len())]
 }
 
 /// The place of the key among the rows in use, or the place where it would stand.
@@ -65,8 +50,5 @@ pub fn get_in<R: Row>(rows: &[R], len: usize, key: u64) -> Option<R>
     ensures { Got R.number key (take len rows.now) result }
 {
     let used = in_use(rows, len);
-    match search(used, key) {
-        Ok(place) => Some(used[place]),
-        Err(_) => None,
-    }
+    search(used, key).ok().map(|place| used[place])
 }

@@ -1,17 +1,17 @@
-use Rattle.std.proofs.Common.{ℕ, take, refl, subst}
+use Rattle.std.proofs.Common.{take, refl, arith, length-take}
+use Rattle.table.proofs.Keys.{row_of-some}
+use Rattle.table.proofs.Shifts.{shifted_in, insert_done}
 use Rattle.table.specs.Tables.{FoundAt}
-use Rattle.table.proofs.Places.{found_some}
-use Rattle.table.proofs.Shifts.{insert_done}
 use Rattle.table.proofs.edits.insert_in.Goals as goal
 
-pub returns-in-Ok : goal.returns-in-Ok
-returns-in-Ok g c =
+-- a row in use has the key
+pub returns-in_default : goal.returns-in_default
+returns-in_default g c =
     let key = g.R.Row.number in
-    let old = take c.args.len c.args.rows.now in
-    let i = c.in-Ok.field-0 in
-    let f : FoundAt key (key c.args.row) old i = subst (λ (z : ℕ). FoundAt key z old i) c.number.ensures c.in-Ok.ensures in
-    record { present = found_some key (key c.args.row) old i f; same = refl {a = c.args.rows.now} }
+    let found : FoundAt key (key c.args.row) (take c.args.len c.args.rows.now) c.in_default.field-0 = rw c.number.ensures at c.in_default.ensures in
+    record { present = row_of-some key (key c.args.row) (take c.args.len c.args.rows.now) c.in_default.field-0 c.args.row found.within (found.hit c.args.row); same = refl {a = c.args.rows.now} }
 
-pub returns-else-len-rows : goal.returns-else-len-rows
-returns-else-len-rows g c =
-    insert_done g.R.Row.number c.args.rows.now c.args.len c.in-Err.place c.number.result c.args.row c.shift_up.new.part c.number.ensures c.in-Err.ensures c.if-len-rows.false c.shift_up.ensures
+pub returns : goal.returns
+returns g c =
+    insert_done g.R.Row.number c.args.rows.now c.args.len c.in-Err.place c.args.row _ (rw c.number.ensures at c.in-Err.ensures) c.if-len-rows.false
+    (shifted_in c.args.rows.now c.args.len c.in-Err.place c.args.row _ (omega (arith, c.in-Err.ensures.within, length-take c.args.len c.args.rows.now)) c.if-len-rows.false c.rotate_right.ensures.after)
