@@ -4,8 +4,6 @@
 --   Removes   what a removal answers, and what it leaves
 --   Changes   what a change answers, and what it leaves
 --   InsertDone, InsertPresent, InsertFull, RemoveDone, ChangeDone, Missing   each answer by itself
---   count_inserted, count_removed   the count of rows in use after an answer
---   Opened, Unopened   a table was made of the first rows of a slice, or could not be
 --
 -- Assumes nothing.
 use Rattle.std.specs.Prelude.{◌≡◌, ℕ, ◌+◌, ◌-◌, ◌<◌, ◌≤◌, min, Bool, true, false, List, ◌∷◌, length, take, drop, is_some, Some, None, Ok, Err, Option, Result}
@@ -64,24 +62,3 @@ module _ {R : Type 0} (key : R → ℕ) where
   abbrev pub Changes : ℕ → R → List R → Bool → List R → Type 0
   Changes len row before true after = ChangeDone len row before after
   Changes len row before false after = Missing len (key row) before after
-
-  -- a table that holds a slice with `count` rows in use was made of the first `len` rows, which rise
-  pub record Opened (len : ℕ) (rows : List R) (count : ℕ) (held : List R) : Type 0 where
-    pub counts : count ≡ len
-    pub same : held ≡ rows
-    pub fits : len ≤ length rows
-    pub order : Rising key (take len rows)
-
-  -- the slice has fewer than `len` rows, or its first ones do not rise
-  abbrev pub Unopened : ℕ → List R → Type 0
-  Unopened len rows = len ≤ length rows → Rising key (take len rows) → ⊥
-
--- the count of rows in use after an insertion
-abbrev pub count_inserted : ℕ → Result (Unit {0}) TableFault → ℕ
-count_inserted len (Ok _) = len + 1
-count_inserted len (Err _) = len
-
--- the count of rows in use after a removal
-abbrev pub count_removed : {R : Type 0} → ℕ → Option R → ℕ
-count_removed len (Some _) = len - 1
-count_removed len None = len

@@ -2,8 +2,8 @@
 //!
 //! A row that goes in shifts the later ones up by one, and one that goes out shifts them down. What stands behind the
 //! rows in use is left alone, and a refused edit leaves the whole slice as it is. Rows that rise still do after it.
+// They take a slice and a count, since a table stands in a slice of the caller's, changed in place, with no heap.
 
-ghost use Rattle.std.specs.Prelude.{◌≡◌, ◌-◌, ◌<◌, ◌∷◌, ◌++◌, length, take, drop, slice_index_or, slice_set};
 ghost use Rattle.table.specs.Slices.{Inserts, Removes, Changes};
 
 use crate::rows::{Row, TableFault, find_in};
@@ -24,7 +24,8 @@ pub fn insert_in<R: Row>(rows: &mut [R], len: usize, row: R) -> Result<(), Table
     Ok(())
 }
 
-/// Removes the row in use that has the key, and answers it; there is then one less in use. None where no row has it.
+/// Removes the row in use that has the key, and answers it; there is then one less in use, and the row stands right
+/// behind those. None where no row has it.
 pub fn remove_in<R: Row>(rows: &mut [R], len: usize, key: u64) -> Option<R>
     ensures { Removes R.number len key rows.old result rows.new }
 {

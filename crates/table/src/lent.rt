@@ -1,14 +1,15 @@
 //! A table over a slice that the caller lends: the slice and the count of its rows in use.
 //!
 //! Each method hands the slice to the function of its name. A table is made only of rows that rise, and each edit
-//! leaves them rising.
+//! leaves them rising. A clause sees a table as its rows in use and the rest of the slice behind them.
 
-ghost use Rattle.std.specs.Prelude.{◌≡◌, take, Some, None, Decides};
+ghost use Rattle.std.specs.Prelude.{◌≡◌, length, Some, None, Decides};
 ghost use Rattle.table.specs.Tables.{Found, Got, Rising};
-ghost use Rattle.table.specs.Slices.{Inserts, Removes, Changes, Opened, Unopened, count_inserted, count_removed};
+ghost use Rattle.table.specs.Lent.{Opened, Unopened, TableInserts, TableRemoves, TableChanges};
 
 use crate::edits::{change_in, insert_in, remove_in};
 use crate::rows::{Row, TableFault, find_in, get_in};
+use std::marker::Model;
 
 /// Whether the keys of all the rows rise strictly.
 fn rises<R: Row>(rows: &[R]) -> bool
@@ -18,18 +19,31 @@ fn rises<R: Row>(rows: &[R]) -> bool
 }
 
 /// The rows in use of a lent slice, in rising order of their keys.
+// The slice and the count stand side by side, since each method hands both to a function that takes no heap.
 #[derive(Drop)]
-pub struct Table<'a, R> {
+pub struct Table<'a, R: Row> {
     /// The rows, those in use first.
     rows: &'a mut [R],
     /// How many of them are in use.
     len: usize,
 }
 
+impl<'a, R: Row> Model for Table<'a, R> {
+    ghost use Rattle.std.specs.Prelude.{◌≤◌, length, take};
+    ghost use Rattle.table.specs.Tables.{Rising};
+    ghost use Rattle.table.specs.Lent.{Rows, rows_of};
+
+    ghost Value = { Rows R };
+
+    ghost view = { λ t. rows_of t.rows.now t.len };
+
+    ghost invariant = { λ t. (t.len ≤ length t.rows.now) × Rising R.number (take t.len t.rows.now) };
+}
+
 impl<'a, R: Row> Table<'a, R> {
     /// The first `len` rows of a slice as a table; none where the slice has fewer, or their keys do not rise.
     pub fn new(rows: &'a mut [R], len: usize) -> Option<Table<'a, R>>
-        ensures { elim result [ Some t ↦ Opened R.number len rows.old t.len t.rows.now | None ↦ Unopened R.number len rows.old ] }
+        ensures { elim result [ Some table ↦ Opened R.number len rows.old table | None ↦ Unopened R.number len rows.old ] }
     {
         if len > rows.len() || !rises(&rows[..len]) {
             return None;
@@ -39,56 +53,50 @@ impl<'a, R: Row> Table<'a, R> {
 
     /// How many rows are in use.
     pub fn len(&self) -> usize
-        ensures { result ≡ self.now.len }
+        ensures { result ≡ length self.now.used }
     {
         self.len
     }
 
     /// The place of the key, or the place where it would stand.
     pub fn find(&self, key: u64) -> Result<usize, usize>
-        ensures { Found R.number key (take self.now.len self.now.rows.now) result }
+        ensures found { Found R.number key self.now.used result }
+        ensures order { Rising R.number self.now.used }
     {
-        let len = self.len;
-        find_in(self.rows, len, key)
+        find_in(self.rows, self.len, key)
     }
 
     /// The row that has the key.
     pub fn get(&self, key: u64) -> Option<R>
-        ensures { Got R.number key (take self.now.len self.now.rows.now) result }
+        ensures got { Got R.number key self.now.used result }
+        ensures order { Rising R.number self.now.used }
     {
-        let len = self.len;
-        get_in(self.rows, len, key)
+        get_in(self.rows, self.len, key)
     }
 
     /// Inserts the row at its place; refused as by `insert_in`.
     pub fn insert(&mut self, row: R) -> Result<(), TableFault>
-        ensures rows { Inserts R.number self.old.len row self.old.rows.now result self.new.rows.now }
-        ensures count { self.new.len ≡ count_inserted self.old.len result }
+        ensures { TableInserts R.number row self.old result self.new }
     {
-        let len = self.len;
-        insert_in(self.rows, len, row)?;
-        self.len = len + 1;
+        insert_in(self.rows, self.len, row)?;
+        self.len += 1;
         Ok(())
     }
 
     /// Removes the row that has the key, and answers it; none where no row has it.
     pub fn remove(&mut self, key: u64) -> Option<R>
-        ensures rows { Removes R.number self.old.len key self.old.rows.now result self.new.rows.now }
-        ensures count { self.new.len ≡ count_removed self.old.len result }
+        ensures { TableRemoves R.number key self.old result self.new }
     {
-        let len = self.len;
-        let row = remove_in(self.rows, len, key)?;
-        self.len = len - 1;
+        let row = remove_in(self.rows, self.len, key)?;
+        self.len -= 1;
         Some(row)
     }
 
     /// Puts the row in the place of that with its key, and answers whether there was one.
     pub fn change(&mut self, row: R) -> bool
-        ensures rows { Changes R.number self.old.len row self.old.rows.now result self.new.rows.now }
-        ensures count { self.new.len ≡ self.old.len }
+        ensures { TableChanges R.number row self.old result self.new }
     {
-        let len = self.len;
-        change_in(self.rows, len, row)
+        change_in(self.rows, self.len, row)
     }
 }
 

@@ -2,6 +2,7 @@
 //!
 //! The rows in use are the first `len` of a slice, or all of it where `len` is larger. The search halves the part that
 //! is left, so it reads few rows of many. It answers for any rows; where they rise, it finds each key that is there.
+// The functions take a slice and a count, since a table stands in a slice of the caller's and takes no heap.
 
 ghost use Rattle.std.specs.Prelude.{◌≡◌, ℕ, take};
 ghost use Rattle.table.specs.Tables.{Found, Got};
