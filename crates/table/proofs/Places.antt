@@ -18,16 +18,16 @@ use Rattle.table.proofs.Keys.{row_of-absent, row_of-at, row_of-some, row_of-inse
 
 module _ {R : Type 0} (key : R → ℕ) (k : ℕ) (rows : List R) where
   -- of rows that rise, those before one have lower keys
-  pub lower_before : (i : ℕ) (d : R) → i < length rows → key (get_or rows i d) ≡ k → Rising key rows → Lower key k (take i rows)
+  lower_before : (i : ℕ) (d : R) → i < length rows → key (get_or rows i d) ≡ k → Rising key rows → Lower key k (take i rows)
   lower_before i d h e up j x lt = grind (arith, common_steps, up j i x)
 
   -- and those behind it higher ones
-  pub higher_behind : (i : ℕ) (d : R) → i < length rows → key (get_or rows i d) ≡ k → Rising key rows → Higher key k (drop (i + 1) rows)
+  higher_behind : (i : ℕ) (d : R) → i < length rows → key (get_or rows i d) ≡ k → Rising key rows → Higher key k (drop (i + 1) rows)
   higher_behind i d h e up j x lt = grind (arith, common_steps, up i (i + 1 + j) x)
 
-  -- no row has a key that lies between two places
-  pub row_of-gap : (i j : ℕ) → i ≤ j → Lower key k (take i rows) → Higher key k (drop i rows) → row_of key k rows ≡ None
-  row_of-gap i j le low high = row_of-absent key k rows (λ m d h same. grind (arith, common_steps, low m d, high (m - i) d))
+  -- no row has a key that lies between those before a place and those from it on
+  row_of-gap : (i : ℕ) → Lower key k (take i rows) → Higher key k (drop i rows) → row_of key k rows ≡ None
+  row_of-gap i low high = row_of-absent key k rows (λ m d h same. grind (arith, common_steps, low m d, high (m - i) d))
 
   -- the comparisons with a key rise along rows that do, as a search asks
   comparisons_rise : Rising key rows → IsNonDecreasingBy (λ r. ordering_index (nat_cmp (key r) k)) rows
@@ -36,7 +36,7 @@ module _ {R : Type 0} (key : R → ℕ) (k : ℕ) (rows : List R) where
       grind (arith, nat_tests)
 
   -- a row with the key is found
-  pub found_at : (i : ℕ) → i < length rows → ((d : R) → key (get_or rows i d) ≡ k) → FoundAt key k rows i
+  found_at : (i : ℕ) → i < length rows → ((d : R) → key (get_or rows i d) ≡ k) → FoundAt key k rows i
   found_at i h hit = record {
     within = h;
     hit = hit;
@@ -54,7 +54,7 @@ module _ {R : Type 0} (key : R → ℕ) (k : ℕ) (rows : List R) where
   searched (Err i) within parted =
       let low : Rising key rows → Lower key k (take i rows) = λ up j d h. grind (arith, common_steps, nat_tests, (parted (comparisons_rise up)).0 j d) in
       let high : Rising key rows → Higher key k (drop i rows) = λ up j d h. grind (arith, common_steps, nat_tests, (parted (comparisons_rise up)).1 (i + j) d) in
-      record { within = within; lower = low; higher = high; row = λ up. row_of-gap i i (omega arith) (low up) (high up) }
+      record { within = within; lower = low; higher = high; row = λ up. row_of-gap i (low up) (high up) }
 
 module _ {R : Type 0} (key : R → ℕ) (rows : List R) where
   -- keys that rise from each row to the next rise from each to all behind it
@@ -73,7 +73,7 @@ module _ {R : Type 0} (key : R → ℕ) (rows : List R) where
       no_row [] none some = omega arith
       no_row (x ∷ xs) none some = none x
 
-  module _ (i : ℕ) (y d : R) where
+  module _ (i : ℕ) (y : R) where
     -- rows that rise still do with one put between lower and higher ones
     rising_insert : i ≤ length rows → Lower key (key y) (take i rows) → Higher key (key y) (drop i rows) → Rising key rows → Rising key (insert rows i y)
     rising_insert h low high up m n e lt within =
@@ -87,7 +87,7 @@ module _ {R : Type 0} (key : R → ℕ) (rows : List R) where
         grind (arith, below m, here m, above m, below n, here n, above n, up m n, up m (n - 1), up (m - 1) (n - 1), lower m, higher (n - 1))
 
     -- and with one in the place of another that has its key
-    rising_set : i < length rows → key (get_or rows i d) ≡ key y → Rising key rows → Rising key (set rows i y)
+    rising_set : i < length rows → key (get_or rows i y) ≡ key y → Rising key rows → Rising key (set rows i y)
     rising_set h e up m n x lt within = grind (arith, common_steps, up m n x, up m i x, up i n x)
 
     -- a row put where a search missed its key
@@ -108,29 +108,29 @@ module _ {R : Type 0} (key : R → ℕ) (rows : List R) where
         }
 
     -- the row taken out that a search found
-    pub removes_at : (k : ℕ) → FoundAt key k rows i → Rising key rows → Removed key k (get_or rows i d) rows (remove rows i)
+    pub removes_at : (k : ℕ) → FoundAt key k rows i → Rising key rows → Removed key k (get_or rows i y) rows (remove rows i)
     removes_at k f up =
-        let low : Lower key k (take i rows) = lower_before key k rows i d f.within (f.hit d) up in
-        let high : Higher key k (drop (i + 1) rows) = higher_behind key k rows i d f.within (f.hit d) up in
+        let low : Lower key k (take i rows) = lower_before key k rows i y f.within (f.hit y) up in
+        let high : Higher key k (drop (i + 1) rows) = higher_behind key k rows i y f.within (f.hit y) up in
         record {
-          rows = without-at key k rows i d f.within (f.hit d) low;
+          rows = without-at key k rows i y f.within (f.hit y) low;
           order = all_pairs_remove (λ r s. key r < key s) rows i f.within up;
           count = length-remove rows i f.within;
-          was = f.row up d;
+          was = f.row up y;
           own = row_of-absent key k (remove rows i) (rw (← add-one i) (All-append (λ r. key r ≢ k) (take i rows) (drop (i + 1) rows) (λ j e h. let l = low j e h in omega (arith, l)) (λ j e h. let l = high j e h in omega (arith, l))));
-          others = λ j ne. row_of-remove key j rows i d f.within (λ e. ne (e ∙ f.hit d));
+          others = λ j ne. row_of-remove key j rows i y f.within (λ e. ne (e ∙ f.hit y));
         }
 
     -- a row put in the place of the one that a search found
     pub changes_at : FoundAt key (key y) rows i → Rising key rows → Changed key y rows (set rows i y)
     changes_at f up =
-        let low : Lower key (key y) (take i rows) = lower_before key (key y) rows i d f.within (f.hit d) up in
+        let low : Lower key (key y) (take i rows) = lower_before key (key y) rows i y f.within (f.hit y) up in
         let here : get_or (set rows i y) i y ≡ y = get_or-set_same rows i y y f.within in
         record {
-          rows = changed-at key y rows i d f.within (f.hit d) low;
-          order = rising_set f.within (f.hit d) up;
+          rows = changed-at key y rows i y f.within (f.hit y) low;
+          order = rising_set f.within (f.hit y) up;
           count = length-set rows i y;
-          was = row_of-some key (key y) rows i d f.within (f.hit d);
+          was = row_of-some key (key y) rows i y f.within (f.hit y);
           own = row_of-at key (key y) (set rows i y) i y (omega (arith, f.within, length-set rows i y)) (ap key here) (subst (λ (z : List R). Lower key (key y) z) (sym (take-set rows i y)) low) ∙ ap (λ (z : R). Some z) here;
-          others = λ k ne. row_of-set key k rows i y d f.within (f.hit d) ne;
+          others = λ k ne. row_of-set key k rows i y y f.within (f.hit y) ne;
         }

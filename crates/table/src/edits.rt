@@ -29,10 +29,10 @@ pub fn insert_in<R: Row>(rows: &mut [R], len: usize, row: R) -> Result<(), Table
 pub fn remove_in<R: Row>(rows: &mut [R], len: usize, key: u64) -> Option<R>
     ensures { Removes R.number len key rows.old result rows.new }
 {
-    let len = len.min(rows.len());
     let place = find_in(rows, len, key).ok()?;
+    let end = len.min(rows.len());
     let row = rows[place];
-    rows[place..len].rotate_left(1);
+    rows[place..end].rotate_left(1);
     Some(row)
 }
 

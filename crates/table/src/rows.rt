@@ -51,5 +51,6 @@ pub fn get_in<R: Row>(rows: &[R], len: usize, key: u64) -> Option<R>
     ensures { Got R.number key (take len rows.now) result }
 {
     let used = in_use(rows, len);
-    search(used, key).ok().map(|place| used[place])
+    let place = search(used, key).ok()?;
+    Some(used[place])
 }
