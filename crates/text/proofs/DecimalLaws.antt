@@ -1,7 +1,6 @@
 -- Decimal text, one digit after another, and what `parse` makes of it.
-use Rattle.std.proofs.Common.{◌≡◌, ℕ, ◌+◌, ◌/◌, ◌%◌, ◌^◌, ◌<◌, ◌≤◌, true, false, ◌&&◌, ◌||◌, eqb, ltb, List, [], ◌∷◌, ◌++◌, length, get_or, Some, None, Ok, Err, IsUtf8, decimal, Option, Result, sym, refl, ap, ◌∙◌, subst, inl, inr, arith}
-use Rattle.std.proofs.lemmas.Fmt.{digits_value-decimal, decimal_digit, decimal_step, decimal_nonempty, decimal-digits_value, digits_decimal, first_decimal, IsAscii-decimal, parse-decimal}
-use Rattle.std.proofs.lemmas.List.{append_assoc}
+use Rattle.std.proofs.Common.{◌≡◌, ℕ, ◌^◌, ◌<◌, ◌≤◌, true, false, ◌&&◌, ◌||◌, eqb, ltb, List, length, get_or, Some, None, Ok, Err, IsUtf8, decimal, Option, Result, sym, refl, ap, ◌∙◌, subst, inl, inr, arith}
+use Rattle.std.proofs.lemmas.Fmt.{digits_value-decimal, decimal_digit, decimal_nonempty, decimal-digits_value, digits_decimal, first_decimal, IsAscii-decimal, parse-decimal}
 use Rattle.std.proofs.lemmas.Str.Parse.{IsNumeralModel, numerals_by_value, tells_digits, digit_at, parse_plain}
 use Rattle.std.proofs.lemmas.Bool.{eqb-false, or_parts, and_parts, cases_lt, cases_Bool, cond-true, cond-false, lt-ltb, ltb-true}
 use Rattle.std.proofs.lemmas.Slice.Eq.{bytes_eq-Decides}
@@ -9,18 +8,9 @@ use Rattle.std.specs.Str.{bytes_eq}
 use Rattle.std.proofs.lemmas.Str.{IsUtf8-from_ascii}
 use Rattle.std.proofs.lemmas.Bool.Decides.{nat_tests}
 use Rattle.std.specs.Str.Parse.{AllDigits, digits_value, ParsesUnsigned}
-use Rattle.std.specs.Result.{result_ok}
+use Rattle.std.specs.Borrow.{Bor}
+use Rattle.std.specs.Result.{MatchResult, result_ok}
 use Rattle.text.specs.Decimal.{is_padded, ReadsDecimal, number_of}
-
--- the writer: zs is ys and the last digit, and ys is xs and the digits before it, if there are any
-pub last_digit : (xs ys zs : List ℕ) (n : ℕ) → 10 ≤ n → n < 2 ^ 64 → ys ≡ xs ++ decimal (n / 10) → zs ≡ ys ++ ((48 + n % 10) ∷ []) → zs ≡ xs ++ decimal n
-last_digit xs ys zs n h small e f =
-    f ∙ ap (λ z. z ++ ((48 + n % 10) ∷ [])) e ∙ append_assoc xs (decimal (n / 10)) ((48 + n % 10) ∷ []) ∙ ap (λ z. xs ++ z) (sym (decimal_step n h small))
-
-pub only_digit : (xs zs : List ℕ) (n : ℕ) → n < 10 → zs ≡ xs ++ ((48 + n % 10) ∷ []) → zs ≡ xs ++ decimal n
-only_digit xs zs n h f =
-    let same : n % 10 ≡ n = omega arith in
-    f ∙ ap (λ (z : ℕ). xs ++ ((48 + z) ∷ [])) same ∙ ap (λ z. xs ++ z) (sym (decimal_digit n h))
 
 own : IsNumeralModel (AllDigits 10) (digits_value 10)
 own = numerals_by_value (AllDigits 10) tells_digits
@@ -42,10 +32,6 @@ front_padded first len p h alone = grind (arith, nat_tests)
 front_plain : (first len : ℕ) → (eqb first 43 || (eqb first 48 && ltb 1 len)) ≡ false → 0 < len → first ≡ 48 → len ≡ 1
 front_plain first len p some zero = grind (arith, nat_tests)
 
-pub empty_plain : (text : List ℕ) → length text ≡ 0 → is_padded text ≡ false
-empty_plain [] h = refl
-empty_plain (b ∷ bs) h = absurd (omega arith)
-
 -- no number is written with what `parse` passes over in front
 pub padded_reads_none : (text : List ℕ) → is_padded text ≡ true → ReadsDecimal text None
 padded_reads_none text p = λ n h e.
@@ -54,6 +40,15 @@ padded_reads_none text p = λ n h e.
 -- nor in bytes that are no text
 pub no_text_reads_none : (text : List ℕ) → (IsUtf8 text → ⊥) → ReadsDecimal text None
 no_text_reads_none text no_text = λ n h e. no_text (subst IsUtf8 e (IsUtf8-from_ascii (decimal n) (IsAscii-decimal n h)))
+
+-- what the code sees of the bytes as a text: none, or the same bytes
+pub no_text : {E : Type 0} (text : List ℕ) (r : Result (Bor (List ℕ)) E) (X : E → Type 0) → MatchResult r (λ s. (s.now ≡ text) × IsUtf8 text) (λ e. (IsUtf8 text → ⊥) × X e) → result_ok r ≡ None → IsUtf8 text → ⊥
+no_text text (Ok s) X h e = cc
+no_text text (Err d) X h e = h.0
+
+pub same_text : {E : Type 0} (text : List ℕ) (r : Result (Bor (List ℕ)) E) (X : E → Type 0) (s : Bor (List ℕ)) → MatchResult r (λ s. (s.now ≡ text) × IsUtf8 text) (λ e. (IsUtf8 text → ⊥) × X e) → result_ok r ≡ Some s → s.now ≡ text
+same_text text (Ok t) X s h e = let same : t ≡ s = cc in rw (← same) h.0
+same_text text (Err d) X s h e = cc
 
 -- what `parse` answers on any other text
 parsed : {E : Type 0} (text : List ℕ) (r : Result ℕ E) → is_padded text ≡ false → ParsesUnsigned 64 10 text r → ReadsDecimal text (result_ok r)
@@ -103,5 +98,7 @@ parsed_as {E} text digits r o p same h e =
     (reads, number_is text o (λ n q. parsed_small text r p here n (sym e ∙ q)) reads)
 
 -- no number is read
-pub reads_none : (text : List ℕ) → ReadsDecimal text None → None ≡ number_of text
-reads_none text none = number_is text None (λ n e. let z : ◌≡◌ {A = ℕ} 0 1 = cc in absurd (omega arith)) none
+pub none_as : (text : List ℕ) (o : Option ℕ) → o ≡ None → ReadsDecimal text None → ReadsDecimal text o × (o ≡ number_of text)
+none_as text o e none =
+    let reads = subst (ReadsDecimal text) (sym e) none in
+    (reads, number_is text o (λ n q. let z : ◌≡◌ {A = ℕ} 0 1 = cc in omega arith) reads)

@@ -1,7 +1,9 @@
 -- What is written in hexadecimal reads back, and has one form.
-use Rattle.std.proofs.Common.{◌≡◌, ℕ, suc, ◌+◌, ◌-◌, ◌*◌, ◌/◌, ◌%◌, ◌<◌, ◌≤◌, List, [], ◌∷◌, ◌++◌, map, length, get_or, take, drop, Some, None, Option, sym, refl, ap, ◌∙◌, arith}
-use Rattle.std.proofs.lemmas.List.{append_assoc, append-nil, take_all, take_more, take_rest}
+use Rattle.std.proofs.Common.{◌≡◌, ℕ, suc, ◌+◌, ◌-◌, ◌*◌, ◌/◌, ◌%◌, ◌<◌, List, [], ◌∷◌, ◌++◌, map, length, get_or, take, drop, true, false, ◌^◌, Some, None, Option, sym, refl, ap, ◌∙◌, arith}
+use Rattle.std.proofs.lemmas.List.{append_assoc, append-nil, take_more, take_rest}
 use Rattle.std.proofs.lemmas.Bool.Decides.{nat_tests}
+use Rattle.std.proofs.lemmas.Fmt.{hex_byte}
+use Rattle.std.specs.Fmt.{digits, digit_glyph, padded_integral, format_spec}
 use Rattle.std.specs.Option.{option_map}
 use Rattle.std.specs.Char.{to_ascii_uppercase}
 use Rattle.text.specs.Hex.{hex_digit, hex_of, hex_value, with_byte, bytes_of, HexReadsBack}
@@ -67,14 +69,16 @@ one_form (h ∷ (l ∷ text)) bs e =
     let back : (p.high * 16 + p.low) % 16 ≡ p.low = omega arith in
     rw (whole, front, back, high.1, low.1, rest) refl
 
--- a turn of the writer: ys was xs and the digits of the first i bytes, and two digits p and q come behind
-pub writes_on : (xs ys zs bs : List ℕ) (i p q : ℕ) → i < length bs → ys ≡ xs ++ hex_of (take i bs) → p ≡ hex_digit (get_or bs i 0 / 16) → q ≡ hex_digit (get_or bs i 0 % 16) → zs ≡ ys ++ (p ∷ (q ∷ [])) → zs ≡ xs ++ hex_of (take (i + 1) bs)
-writes_on xs ys zs bs i p q h e high low f =
-    f ∙ ap (λ z. z ++ (p ∷ (q ∷ []))) e ∙ append_assoc xs (hex_of (take i bs)) (p ∷ (q ∷ [])) ∙ ap (λ z. xs ++ z) (rw (high, low) (sym (hex_of-more bs i h)))
+-- `{:02X}` writes the digits of the table
+same_glyph : (d : ℕ) → digit_glyph true d ≡ hex_digit d
+same_glyph d = grind (arith, nat_tests)
 
--- the writer's end
-pub writes_all : (xs ys bs : List ℕ) (i : ℕ) → length bs ≤ i → ys ≡ xs ++ hex_of (take i bs) → ys ≡ xs ++ hex_of bs
-writes_all xs ys bs i h e = e ∙ ap (λ z. xs ++ hex_of z) (take_all i bs h)
+-- a turn of the writer: xs is the digits of the first i bytes, and those of one byte more come behind
+pub writes_on : (xs ys bs : List ℕ) (i : ℕ) → i < length bs → get_or bs i 0 < 256 → xs ≡ hex_of (take i bs) → ys ≡ xs ++ padded_integral (format_spec 32 0 4 2 (2 ^ 64 - 1)) false [] (digits 16 true (get_or bs i 0)) → ys ≡ hex_of (take (i + 1) bs)
+writes_on xs ys bs i h small e f =
+    let high = same_glyph (get_or bs i 0 / 16) in
+    let low = same_glyph (get_or bs i 0 % 16) in
+    f ∙ ap (λ z. xs ++ z) (hex_byte true (get_or bs i 0) small) ∙ rw (e, high, low) (sym (hex_of-more bs i h))
 
 -- a byte put behind what was read stands in front of what is to come
 behind : (xs : List ℕ) (h l : ℕ) (o : Option (List ℕ)) → option_map (λ ys. (xs ++ ((h * 16 + l) ∷ [])) ++ ys) o ≡ option_map (λ ys. xs ++ ys) (with_byte (Some h) (Some l) o)

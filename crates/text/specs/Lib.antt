@@ -1,4 +1,5 @@
 pub mod Decimal
 pub mod Grown
 pub mod Hex
+pub mod Shown
 pub mod Words

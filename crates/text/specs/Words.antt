@@ -1,6 +1,10 @@
 -- The words of a line. Assumes nothing.
--- Words: is_blank, without_blanks, up_to_blank, from_blank, word_of, after_word, AllBlank, NoBlank, EndsWord, SplitsWord, is_end.
-use Rattle.std.specs.Prelude.{◌≡◌, ℕ, Bool, true, false, cond, ◌||◌, List, [], ◌∷◌, ◌++◌, ◌==◌}
+-- Words: is_blank, without_blanks, up_to_blank, from_blank, word_of, after_word, AllBlank, NoBlank, EndsWord, SplitsWord, is_end, first_in, end_in, last_in, first_shown, shown.
+use Rattle.std.specs.Prelude.{◌≡◌, ℕ, Bool, true, false, cond, ◌||◌, List, [], ◌∷◌, ◌++◌, ◌==◌, Ok, Err, Result}
+use Rattle.std.specs.Borrow.{Bor}
+use Rattle.text.specs.declared.word.Split.{Split}
+use Rattle.text.specs.declared.word.WordFault.{WordFault}
+use Rattle.text.specs.declared.word.WordFault.TheVariants.{Missing, Extra}
 
 -- a space, 32, or a tab, 9
 abbrev pub is_blank : ℕ → Bool
@@ -57,3 +61,25 @@ pub record SplitsWord (text word rest : List ℕ) : Type 0 where
 abbrev pub is_end : List ℕ → Bool
 is_end [] = true
 is_end (b ∷ bs) = b == 35
+
+-- the first word, which must be there
+abbrev pub first_in : List ℕ → Result (List ℕ) WordFault
+first_in text = cond (is_end (word_of text)) (Err Missing) (Ok (word_of text))
+
+-- no word is left
+abbrev pub end_in : List ℕ → Result (Unit {0}) WordFault
+end_in text = cond (is_end (word_of text)) (Ok tt) (Err Extra)
+
+-- the one word that is left
+abbrev pub last_in : List ℕ → Result (List ℕ) WordFault
+last_in text = cond (is_end (word_of text)) (Err Missing) (cond (is_end (word_of (after_word text))) (Ok (word_of text)) (Err Extra))
+
+-- the word of a split by its bytes
+abbrev pub first_shown : {E : Type 0} → Result Split E → Result (List ℕ) E
+first_shown (Ok split) = Ok split.word.now
+first_shown (Err e) = Err e
+
+-- a borrowed word by its bytes
+abbrev pub shown : {E : Type 0} → Result (Bor (List ℕ)) E → Result (List ℕ) E
+shown (Ok word) = Ok word.now
+shown (Err e) = Err e

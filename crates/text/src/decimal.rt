@@ -7,11 +7,9 @@ ghost use Rattle.std.specs.Prelude.{◌≡◌, ◌++◌, decimal, OnOk};
 ghost use Rattle.text.specs.Decimal.{is_padded, ReadsDecimal, number_of, labelled};
 ghost use Rattle.text.specs.Grown.{Grown};
 
+use crate::shown::push_shown;
 use std::alloc::AllocError;
 use std::str::from_utf8;
-
-/// How many values a digit has.
-const BASE: u64 = 10;
 
 /// Appends the decimal digits of the number, with no zero in front but for 0 itself.
 ///
@@ -20,21 +18,14 @@ pub fn push_decimal(out: &mut Vec<u8>, n: u64) -> Result<(), AllocError>
     ensures writes { OnOk result (out.new.items ≡ out.old.items ++ decimal n) }
     ensures keeps { Grown out.old.items out.new.items }
 {
-    if n >= BASE {
-        push_decimal(out, n / BASE)?;
-    }
-    out.push(b'0' + (n % BASE) as u8)?;
-    Ok(())
+    push_shown(out, &n)
 }
 
 /// Whether the text has in front what `parse` would pass over: a sign, or a zero before more digits.
 fn is_padded(text: &[u8]) -> bool
     ensures { result ≡ is_padded text.now }
 {
-    match text.first() {
-        Some(first) => *first == b'+' || (*first == b'0' && text.len() > 1),
-        None => false,
-    }
+    matches!(text, [b'+', ..] | [b'0', _, ..])
 }
 
 /// The number whose decimal digits the text is, just as `push_decimal` appends them; `None` for any other text.
@@ -45,17 +36,12 @@ pub fn read_decimal(text: &[u8]) -> Option<u64>
     if is_padded(text) {
         return None;
     }
-    match from_utf8(text) {
-        Ok(digits) => digits.parse::<u64>().ok(),
-        Err(_) => None,
-    }
+    from_utf8(text).ok()?.parse().ok()
 }
 
 /// Appends a text, and a number behind it.
 pub fn push_labelled(out: &mut Vec<u8>, label: &str, n: u64) -> Result<(), AllocError>
     ensures { OnOk result (out.new.items ≡ out.old.items ++ labelled label.now n) }
 {
-    out.extend_from_slice(label.as_bytes())?;
-    push_decimal(out, n)?;
-    Ok(())
+    push_shown(out, &format_args!("{label}{n}"))
 }

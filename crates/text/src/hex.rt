@@ -8,6 +8,7 @@ ghost use Rattle.std.specs.Option.{option_map};
 ghost use Rattle.text.specs.Grown.{Grown};
 ghost use Rattle.text.specs.Hex.{hex_digit, hex_of, hex_value, bytes_of, HexReadsBack, HexHasOneForm, bytes_in, bytes_text};
 
+use crate::shown::push_shown;
 use crate::word::is_word;
 use std::alloc::{AllocError, Global};
 
@@ -17,31 +18,12 @@ const NO_BYTES: &[u8] = b"-";
 /// How many values a digit has.
 const BASE: u8 = 16;
 
-/// The value of the first digit that is a letter.
-const LETTERS: u8 = 10;
-
-/// The upper-case digit of a value below 16.
-fn hex_digit(value: u8) -> u8
-    requires { value < 16 }
-    ensures { result ≡ hex_digit value }
-{
-    if value < LETTERS {
-        b'0' + value
-    } else {
-        b'A' + (value - LETTERS)
-    }
-}
-
 /// The value of a digit of either case.
 fn hex_value(digit: u8) -> Option<u8>
     ensures { result ≡ hex_value digit }
 {
-    match digit {
-        b'0'..=b'9' => Some(digit - b'0'),
-        b'A'..=b'F' => Some(digit - b'A' + LETTERS),
-        b'a'..=b'f' => Some(digit - b'a' + LETTERS),
-        _ => None,
-    }
+    let value = char::from(digit).to_digit(16)?;
+    Some(value as u8)
 }
 
 /// Appends two upper-case digits for each of the bytes.
@@ -52,11 +34,11 @@ pub fn push_hex(out: &mut Vec<u8>, bytes: &[u8]) -> Result<(), AllocError>
     ensures keeps { Grown out.old.items out.new.items }
     ensures reads_back { HexReadsBack bytes.now }
 {
+    let mut text = String::new(*out.allocator());
     for byte in bytes {
-        let digits = [hex_digit(*byte / BASE), hex_digit(*byte % BASE)];
-        out.extend_from_slice(&digits)?;
+        write!(text, "{byte:02X}")?;
     }
-    Ok(())
+    push_shown(out, &text)
 }
 
 /// The bytes that the text writes, two digits of either case for each; `None` where it holds another byte, or an odd

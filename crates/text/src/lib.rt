@@ -6,13 +6,15 @@
 
 pub mod decimal;
 pub mod hex;
+pub mod shown;
 pub mod word;
 
 #[cfg(test)]
 mod tests {
     use crate::decimal::{push_decimal, push_labelled, read_decimal};
     use crate::hex::{push_bytes, push_hex, read_bytes, read_hex};
-    use crate::word::next_word;
+    use crate::shown::{push_error, push_shown};
+    use crate::word::{WordFault, first_word, last_word, next_word, no_word};
     use std::test::Fail;
 
     #[test]
@@ -65,5 +67,29 @@ mod tests {
         let third = next_word(second.rest);
         assert!(rt; third.word == b"01".as_slice() && third.rest.is_empty());
         assert!(rt; next_word(b" \t").word.is_empty());
+    }
+
+    #[test]
+    fn what_is_displayed(rt: HostRuntime) -> Result<(), Fail> {
+        let mut out = Vec::new(rt.alloc());
+        push_shown(&mut out, &"gate")?;
+        push_shown(&mut out, &4)?;
+        assert!(rt; out.as_slice() == b"gate4".as_slice());
+        push_error(&mut out, &"no gate")?;
+        assert!(rt; out.as_slice() == b"gate4error: no gate\n".as_slice());
+        Ok(())
+    }
+
+    #[test]
+    fn words_that_belong_there(rt: HostRuntime) {
+        for text in [b"".as_slice(), b" \t", b" # scan 01"] {
+            assert!(rt; first_word(text) == Err(WordFault::Missing));
+            assert!(rt; no_word(text) == Ok(()));
+            assert!(rt; last_word(text) == Err(WordFault::Missing));
+        }
+        assert!(rt; first_word(b" cut 4 ") == Ok(next_word(b" cut 4 ")));
+        assert!(rt; no_word(b" 4") == Err(WordFault::Extra));
+        assert!(rt; last_word(b" 4 5") == Err(WordFault::Extra));
+        assert!(rt; last_word(b" 4 #5") == Ok(b"4".as_slice()));
     }
 }

@@ -3,8 +3,8 @@
 //! Kept true: blanks, then the word, then the rest are the whole text; no blank stands in the word; the rest is empty
 //! or begins with a blank; and the word is empty only where the whole text is blanks.
 
-ghost use Rattle.std.specs.Prelude.{◌≡◌, ◌≤◌, length, take, drop};
-ghost use Rattle.text.specs.Words.{is_blank, without_blanks, up_to_blank, from_blank, word_of, after_word, SplitsWord, is_end};
+ghost use Rattle.std.specs.Prelude.{◌≡◌, ◌≤◌, length, take, drop, IfOk};
+ghost use Rattle.text.specs.Words.{is_blank, without_blanks, up_to_blank, from_blank, word_of, after_word, SplitsWord, is_end, first_in, end_in, last_in, first_shown, shown};
 ghost use Rattle.std.specs.Str.{bytes_eq};
 
 /// The blank that mostly stands between words.
@@ -25,23 +25,28 @@ pub struct Split<'a> {
     pub rest: &'a [u8],
 }
 
+/// Why the words of a line are not those that belong there.
+#[derive(Clone, Copy, PartialEq, Eq)]
+pub enum WordFault {
+    /// A word is missing.
+    Missing,
+    /// A word is left over.
+    Extra,
+}
+
 /// Whether the byte stands between words.
 fn is_blank(byte: u8) -> bool
     ensures { result ≡ is_blank byte }
 {
-    byte == SPACE || byte == TAB
+    matches!(byte, SPACE | TAB)
 }
 
 /// The text from its first byte that is no blank.
 fn skip_blanks(text: &[u8]) -> &[u8]
     ensures { result.now ≡ without_blanks text.now }
 {
-    for (i, byte) in text.iter().enumerate() {
-        if !is_blank(*byte) {
-            return &text[i..];
-        }
-    }
-    &[]
+    let start = text.iter().position(|byte| !is_blank(*byte));
+    &text[start.unwrap_or(text.len())..]
 }
 
 /// How many bytes stand before the first blank.
@@ -50,12 +55,8 @@ fn word_len(text: &[u8]) -> usize
     ensures word { take result text.now ≡ up_to_blank text.now }
     ensures rest { drop result text.now ≡ from_blank text.now }
 {
-    for (i, byte) in text.iter().enumerate() {
-        if is_blank(*byte) {
-            return i;
-        }
-    }
-    text.len()
+    let end = text.iter().position(|byte| is_blank(*byte));
+    end.unwrap_or(text.len())
 }
 
 /// The first word of the text, with the blanks in front of it passed over, and what follows it.
@@ -73,10 +74,40 @@ pub fn next_word(text: &[u8]) -> Split<'_>
 pub fn is_end(word: &[u8]) -> bool
     ensures { result ≡ is_end word.now }
 {
-    match word.first() {
-        Some(first) => *first == COMMENT,
-        None => true,
+    matches!(word, [] | [COMMENT, ..])
+}
+
+/// The first word of the text, which must be there, and what follows it.
+pub fn first_word(text: &[u8]) -> Result<Split<'_>, WordFault>
+    ensures word { first_shown result ≡ first_in text.now }
+    ensures rest { IfOk result (λ split. split.rest.now ≡ after_word text.now) }
+{
+    let split = next_word(text);
+    if is_end(split.word) {
+        Err(WordFault::Missing)
+    } else {
+        Ok(split)
     }
+}
+
+/// That no word is left in the text.
+pub fn no_word(text: &[u8]) -> Result<(), WordFault>
+    ensures { result ≡ end_in text.now }
+{
+    if is_end(next_word(text).word) {
+        Ok(())
+    } else {
+        Err(WordFault::Extra)
+    }
+}
+
+/// The one word that is left in the text.
+pub fn last_word(text: &[u8]) -> Result<&[u8], WordFault>
+    ensures { shown result ≡ last_in text.now }
+{
+    let split = first_word(text)?;
+    no_word(split.rest)?;
+    Ok(split.word)
 }
 
 /// Whether two words are the same.

@@ -1,25 +1,15 @@
-use Rattle.std.proofs.Common.{take, vec_items, ◌∙◌, arith}
-use Rattle.std.proofs.lemmas.Result.{IfOk-from_err}
-use Rattle.text.specs.Hex.{hex_of}
-use Rattle.text.proofs.HexLaws.{reads_back, writes_on, writes_all}
+use Rattle.std.proofs.Common.{arith}
+use Rattle.std.specs.String.{string_bytes}
+use Rattle.text.proofs.HexLaws.{reads_back, writes_on}
 use Rattle.text.proofs.hex.push_hex.Goals as goal
 
-pub returns-in_err-extend_from_slice : goal.returns-in_err-extend_from_slice
-returns-in_err-extend_from_slice c = record {
-  writes = IfOk-from_err c.from_residual.result _ c.from_residual.ensures.0;
-  keeps = (hex_of (take c.loop-byte.byte-index c.args.bytes.now), c.in_err-extend_from_slice.ensures.items ∙ c.loop-byte.invariant);
-  reads_back = reads_back c.args.bytes.now (λ i. omega (arith, c.type_inv.bytes i));
-}
+pub returns-in_err-write-clause-reads_back : goal.returns-in_err-write-clause-reads_back
+returns-in_err-write-clause-reads_back c = reads_back c.args.bytes.now (λ i. omega (arith, c.type_inv.bytes i))
 
 pub loop-byte-preserved : goal.loop-byte-preserved
 loop-byte-preserved c =
-    writes_on (vec_items c.args.out.now) (vec_items c.loop-byte.out) (vec_items c.extend_from_slice.new.self) c.args.bytes.now c.loop-byte.byte-index c.hex_digit.result c.hex_digit-in-loop-byte.result c.loop-byte-test.true c.loop-byte.invariant c.hex_digit.ensures c.hex_digit-in-loop-byte.ensures c.in_ok-extend_from_slice.ensures.items
+    let wrote = rw (c.laid_out.ensures, c.in_radix.ensures) at c.in_ok-write.ensures.bytes in
+    writes_on (string_bytes c.loop-byte.text) (string_bytes c.write.new.self) c.args.bytes.now c.loop-byte.byte-index c.loop-byte-test.true (omega (arith, c.type_inv.bytes c.loop-byte.byte-index)) c.loop-byte.invariant wrote
 
-pub returns : goal.returns
-returns c =
-    let all = writes_all (vec_items c.args.out.now) (vec_items c.loop-byte.out) c.args.bytes.now c.loop-byte.byte-index c.loop-byte-test.false c.loop-byte.invariant in
-    record {
-      writes = all;
-      keeps = (hex_of c.args.bytes.now, all);
-      reads_back = reads_back c.args.bytes.now (λ i. omega (arith, c.type_inv.bytes i));
-    }
+pub returns-clause-reads_back : goal.returns-clause-reads_back
+returns-clause-reads_back c = reads_back c.args.bytes.now (λ i. omega (arith, c.type_inv.bytes i))

@@ -1,15 +1,13 @@
-use Rattle.std.proofs.Common.{sym, ◌∙◌}
-use Rattle.std.proofs.lemmas.List.{take_rest, at_drop_all}
-use Rattle.text.specs.Words.{without_blanks}
-use Rattle.text.proofs.WordLaws.{skips, skips_no_more}
+use Rattle.std.proofs.Common.{length, drop, not, unwrap_or, ap, ◌∙◌, rules, tests}
+use Rattle.std.proofs.lemmas.Iterator.{YieldsList-from_slice}
+use Rattle.std.proofs.lemmas.Iterator.Search.{position_from_yields_List}
+use Rattle.std.proofs.lemmas.List.{take_rest}
+use Rattle.text.specs.Words.{is_blank}
+use Rattle.text.proofs.WordLaws.{place, blanks_passed}
 use Rattle.text.proofs.word.skip_blanks.Goals as goal
 
-pub returns-then-not-is_blank : goal.returns-then-not-is_blank
-returns-then-not-is_blank c =
-    take_rest c.args.text.now c.loop-i.i ∙ skips_no_more c.args.text.now c.loop-i.i c.loop-i-test.true (sym c.if-not-is_blank.ensures) ∙ c.loop-i.invariant
-
-pub loop-i-preserved : goal.loop-i-preserved
-loop-i-preserved c = skips c.args.text.now c.loop-i.i c.loop-i-test.true (sym c.if-not-is_blank.ensures) ∙ c.loop-i.invariant
-
 pub returns : goal.returns
-returns c = sym (at_drop_all without_blanks c.args.text.now c.loop-i.i c.loop-i-test.false) ∙ c.loop-i.invariant
+returns c =
+    let found = position_from_yields_List (λ b. not (is_blank b)) _ _ c.position-start.result c.position-start.ensures.ran (YieldsList-from_slice c.args.text.now cc) (λ x b q k. search (rules, tests)) in
+    let start = c.unwrap_or.ensures ∙ ap (λ o. unwrap_or o (length c.args.text.now)) found ∙ place (λ b. not (is_blank b)) c.args.text.now in
+    take_rest c.args.text.now c.unwrap_or.result ∙ ap (λ i. drop i c.args.text.now) start ∙ blanks_passed c.args.text.now

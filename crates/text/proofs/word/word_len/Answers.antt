@@ -1,24 +1,17 @@
-use Rattle.std.proofs.Common.{sym, ◌∙◌, arith}
-use Rattle.text.proofs.WordLaws.{word_on, rest_on, word_stops, rest_starts, word_ends, rest_ends}
+use Rattle.std.proofs.Common.{length, take, drop, not, unwrap_or, ap, ◌∙◌, rules, tests}
+use Rattle.std.proofs.lemmas.List.Sums.{prefix_len-le-length}
+use Rattle.std.proofs.lemmas.Iterator.{YieldsList-from_slice}
+use Rattle.std.proofs.lemmas.Iterator.Search.{position_from_yields_List}
+use Rattle.text.specs.Words.{is_blank}
+use Rattle.text.proofs.WordLaws.{place, word_taken, word_passed}
 use Rattle.text.proofs.word.word_len.Goals as goal
 
-pub returns-then-is_blank : goal.returns-then-is_blank
-returns-then-is_blank c =
-    let blank = sym c.if-is_blank.ensures in
-    record {
-      within = omega arith;
-      word = word_stops c.args.text.now c.loop-i.i c.loop-i-test.true blank ∙ c.loop-i.invariant.0;
-      rest = rest_starts c.args.text.now c.loop-i.i c.loop-i-test.true blank ∙ c.loop-i.invariant.1;
-    }
-
-pub loop-i-preserved : goal.loop-i-preserved
-loop-i-preserved c =
-    let none = sym c.if-is_blank.ensures in
-    (word_on c.args.text.now c.loop-i.i c.loop-i-test.true none ∙ c.loop-i.invariant.0, rest_on c.args.text.now c.loop-i.i c.loop-i-test.true none ∙ c.loop-i.invariant.1)
-
 pub returns : goal.returns
-returns c = record {
-  within = omega arith;
-  word = word_ends c.args.text.now c.loop-i.i c.loop-i-test.false ∙ c.loop-i.invariant.0;
-  rest = rest_ends c.args.text.now c.loop-i.i c.loop-i-test.false ∙ c.loop-i.invariant.1;
-}
+returns c =
+    let found = position_from_yields_List is_blank _ _ c.position-end.result c.position-end.ensures.ran (YieldsList-from_slice c.args.text.now cc) (λ x b q k. search (rules, tests)) in
+    let end = c.unwrap_or.ensures ∙ ap (λ o. unwrap_or o (length c.args.text.now)) found ∙ place is_blank c.args.text.now in
+    record {
+      within = rw end (prefix_len-le-length (λ b. not (is_blank b)) c.args.text.now);
+      word = ap (λ i. take i c.args.text.now) end ∙ word_taken c.args.text.now;
+      rest = ap (λ i. drop i c.args.text.now) end ∙ word_passed c.args.text.now;
+    }
