@@ -59,8 +59,7 @@ parsed {E} text (Ok x) p h =
     sym (ap decimal plain.1 ∙ decimal-digits_value own text plain.0.0 plain.0.1 alone plain.0.2)
 parsed text (Err d) p h = λ n small e.
     let same = parse-decimal 64 n text (Err d) small small (sym e) h in
-    let z : ◌≡◌ {A = ℕ} 0 1 = cc in
-    omega arith
+    cc
 
 -- a number that `parse` answers is below 2^64
 parsed_small : {E : Type 0} (text : List ℕ) (r : Result ℕ E) → is_padded text ≡ false → ParsesUnsigned 64 10 text r → (n : ℕ) → result_ok r ≡ Some n → n < 2 ^ 64
@@ -71,7 +70,7 @@ parsed_small {E} text (Ok x) p h n e =
     let small = plain.0.2 in
     let v = plain.1 in
     omega arith
-parsed_small text (Err d) p h n e = let z : ◌≡◌ {A = ℕ} 0 1 = cc in absurd (omega arith)
+parsed_small text (Err d) p h n e = cc
 
 -- a text that is read as a number is what is written of the value of its digits, and any other text is not
 pub number_is : (text : List ℕ) (o : Option ℕ) → ((n : ℕ) → o ≡ Some n → n < 2 ^ 64) → ReadsDecimal text o → o ≡ number_of text
@@ -101,4 +100,4 @@ parsed_as {E} text digits r o p same h e =
 pub none_as : (text : List ℕ) (o : Option ℕ) → o ≡ None → ReadsDecimal text None → ReadsDecimal text o × (o ≡ number_of text)
 none_as text o e none =
     let reads = subst (ReadsDecimal text) (sym e) none in
-    (reads, number_is text o (λ n q. let z : ◌≡◌ {A = ℕ} 0 1 = cc in omega arith) reads)
+    (reads, number_is text o (λ n q. cc) reads)

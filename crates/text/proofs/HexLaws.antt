@@ -1,5 +1,5 @@
 -- What is written in hexadecimal reads back, and has one form.
-use Rattle.std.proofs.Common.{◌≡◌, ℕ, suc, ◌+◌, ◌-◌, ◌*◌, ◌/◌, ◌%◌, ◌<◌, List, [], ◌∷◌, ◌++◌, map, length, get_or, take, drop, true, false, ◌^◌, Some, None, Option, sym, refl, ap, ◌∙◌, arith}
+use Rattle.std.proofs.Common.{◌≡◌, ℕ, suc, ◌+◌, ◌-◌, ◌*◌, ◌/◌, ◌%◌, ◌<◌, List, [], ◌∷◌, ◌++◌, map, length, get_or, take, drop, true, false, ◌^◌, Some, None, Option, sym, refl, ap, ◌∙◌, arith, Fits, w8}
 use Rattle.std.proofs.lemmas.List.{append_assoc, append-nil, take_more, take_rest}
 use Rattle.std.proofs.lemmas.Bool.Decides.{nat_tests}
 use Rattle.std.proofs.lemmas.Fmt.{hex_byte}
@@ -21,10 +21,10 @@ value_digit : (d : ℕ) → d < 16 → hex_value (hex_digit d) ≡ Some d
 value_digit d h = grind (arith, nat_tests)
 
 -- what is written is read back
-pub reads_back : (bs : List ℕ) → ((i : ℕ) → get_or bs i 0 < 256) → HexReadsBack bs
+pub reads_back : (bs : List ℕ) → ((i : ℕ) → Fits w8 (get_or bs i 0)) → HexReadsBack bs
 reads_back [] h = refl
 reads_back (b ∷ bs) h =
-    let small : b < 256 = h 0 in
+    let small : b < 256 = omega (arith, h 0) in
     let high = value_digit (b / 16) (omega arith) in
     let low = value_digit (b % 16) (omega arith) in
     let whole : b / 16 * 16 + b % 16 ≡ b = omega arith in
@@ -34,9 +34,6 @@ reads_back (b ∷ bs) h =
 -- a digit of either case is, in upper case, the digit of its value
 upper_value : (c x : ℕ) → hex_value c ≡ Some x → (x < 16) × (to_ascii_uppercase c ≡ hex_digit x)
 upper_value c x e = (grind (arith, nat_tests), grind (arith, nat_tests))
-
-none_some : {X : Type 0} (x : X) → ◌≡◌ {A = Option X} None (Some x) → ⊥
-none_some x e = let z : ◌≡◌ {A = ℕ} 0 1 = cc in omega arith
 
 -- two digits and the bytes behind them, of which bs was made
 record Parts (o p : Option ℕ) (q : Option (List ℕ)) (bs : List ℕ) : Type 0 where
@@ -49,16 +46,16 @@ record Parts (o p : Option ℕ) (q : Option (List ℕ)) (bs : List ℕ) : Type 0
   pub whole : bs ≡ (high * 16 + low) ∷ tail
 
 parts : (o p : Option ℕ) (q : Option (List ℕ)) (bs : List ℕ) → with_byte o p q ≡ Some bs → Parts o p q bs
-parts None p q bs e = absurd (none_some bs e)
-parts (Some h) None q bs e = absurd (none_some bs e)
-parts (Some h) (Some l) None bs e = absurd (none_some bs e)
+parts None p q bs e = cc
+parts (Some h) None q bs e = cc
+parts (Some h) (Some l) None bs e = cc
 parts (Some h) (Some l) (Some zs) bs e =
     record { high = h; low = l; tail = zs; high_is = refl; low_is = refl; tail_is = refl; whole = cc }
 
 -- what is read has one form
 pub one_form : (text bs : List ℕ) → bytes_of text ≡ Some bs → map to_ascii_uppercase text ≡ hex_of bs
 one_form [] bs e = let z : bs ≡ [] = cc in rw z refl
-one_form (h ∷ []) bs e = absurd (none_some bs e)
+one_form (h ∷ []) bs e = cc
 one_form (h ∷ (l ∷ text)) bs e =
     let p = parts (hex_value h) (hex_value l) (bytes_of text) bs e in
     let high = upper_value h p.high p.high_is in
@@ -87,8 +84,8 @@ behind xs h l (Some ys) = ap Some (append_assoc xs ((h * 16 + l) ∷ []) ys)
 
 -- a turn of the reader: xs was read before the rest, and zs with the rest's first two digits
 pub reads_on : (xs zs rest : List ℕ) (h l : ℕ) (o : Option (List ℕ)) → hex_value (get_or rest 0 0) ≡ Some h → hex_value (get_or rest 1 0) ≡ Some l → zs ≡ xs ++ ((h * 16 + l) ∷ []) → option_map (λ ys. xs ++ ys) (bytes_of rest) ≡ o → option_map (λ ys. zs ++ ys) (bytes_of (take (length rest - 2) (drop 2 rest))) ≡ o
-reads_on xs zs [] h l o high low e inv = absurd (none_some h high)
-reads_on xs zs (a ∷ []) h l o high low e inv = absurd (none_some l low)
+reads_on xs zs [] h l o high low e inv = cc
+reads_on xs zs (a ∷ []) h l o high low e inv = cc
 reads_on xs zs (a ∷ (b ∷ t)) h l o high low e inv =
     ap (λ z. option_map (λ ys. zs ++ ys) (bytes_of z)) (take_rest (a ∷ (b ∷ t)) 2) ∙ ap (λ z. option_map (λ ys. z ++ ys) (bytes_of t)) e ∙ behind xs h l (bytes_of t) ∙ ap (λ z. option_map (λ ys. xs ++ ys) (with_byte (Some h) z (bytes_of t))) (sym low) ∙ ap (λ z. option_map (λ ys. xs ++ ys) (with_byte z (hex_value b) (bytes_of t))) (sym high) ∙ inv
 

@@ -1,4 +1,3 @@
 pub mod DecimalLaws
-pub mod GrownLaws
 pub mod HexLaws
 pub mod WordLaws

@@ -1,5 +1,5 @@
 -- A text is blanks, a word and a rest.
-use Rattle.std.proofs.Common.{◌≡◌, ℕ, suc, ◌+◌, ◌≤◌, Bool, true, false, not, cond, nat_lt, List, [], ◌∷◌, ◌++◌, length, take, drop, Some, None, unwrap_or, sym, refl, ap, ◌∙◌, inl, inr, arith}
+use Rattle.std.proofs.Common.{◌≡◌, ℕ, suc, ◌+◌, ◌≤◌, Bool, true, false, not, cond, nat_lt, List, [], ◌∷◌, ◌++◌, length, take, drop, Some, None, Option, unwrap_or, sym, refl, ap, ◌∙◌, inl, inr, arith}
 use Rattle.std.proofs.lemmas.Bool.Decides.{nat_tests}
 use Rattle.std.proofs.lemmas.List.Sums.{prefix_len-le-length}
 use Rattle.std.specs.List.{position, position_or_len}
@@ -35,9 +35,6 @@ rest_begins : (text : List ℕ) → EndsWord (from_blank text)
 rest_begins [] = tt
 rest_begins (b ∷ bs) = cond_both (is_blank b) (b ∷ bs) (from_blank bs) EndsWord (λ e. e) (λ e. rest_begins bs)
 
-not_nil : (b : ℕ) (bs : List ℕ) → b ∷ bs ≡ [] → ⊥
-not_nil b bs e = let z : ◌≡◌ {A = ℕ} 0 1 = cc in omega arith
-
 first_kept_lem : (b : ℕ) (bs : List ℕ) → is_blank b ≡ false → word_of (b ∷ bs) ≡ b ∷ up_to_blank bs
 first_kept_lem b bs e = ap up_to_blank (cond-false _ (without_blanks bs) (b ∷ bs) e) ∙ cond-false _ [] (b ∷ up_to_blank bs) e
 
@@ -46,7 +43,7 @@ no_word [] h = tt
 no_word (b ∷ bs) h =
     elim (cases_Bool (is_blank b)) [
       | inl e ↦ (e, no_word bs (sym (ap up_to_blank (cond-true _ (without_blanks bs) (b ∷ bs) e)) ∙ h))
-      | inr e ↦ absurd (not_nil b (up_to_blank bs) (sym (first_kept_lem b bs e) ∙ h))
+      | inr e ↦ let first = first_kept_lem b bs e in cc
     ]
 
 splits : (text : List ℕ) → SplitsWord text (word_of text) (after_word text)
@@ -66,8 +63,9 @@ place_at : (k n : ℕ) → k ≤ n → unwrap_or (cond (nat_lt k n) (Some k) Non
 place_at k n h = grind (arith, nat_tests)
 
 -- the first place at which p passes, or the end, as the code asks for it
-pub place : (p : ℕ → Bool) (xs : List ℕ) → unwrap_or (position p xs) (length xs) ≡ position_or_len p xs
-place p xs = place_at (position_or_len p xs) (length xs) (prefix_len-le-length (λ x. not (p x)) xs)
+pub place : (p : ℕ → Bool) (xs : List ℕ) (o : Option ℕ) (n : ℕ) → o ≡ position p xs → n ≡ unwrap_or o (length xs) → n ≡ position_or_len p xs
+place p xs o n found e =
+    e ∙ ap (λ z. unwrap_or z (length xs)) found ∙ place_at (position_or_len p xs) (length xs) (prefix_len-le-length (λ x. not (p x)) xs)
 
 one_more : (n : ℕ) → 1 + n ≡ suc n
 one_more n = omega arith

@@ -29,6 +29,7 @@ fn hex_value(digit: u8) -> Option<u8>
 /// Appends two upper-case digits for each of the bytes.
 ///
 /// Where memory runs out, `out` holds what it held and the digits of some of the bytes.
+#[tactic(auto, using(crate::proofs::HexLaws::reads_back))]
 pub fn push_hex(out: &mut Vec<u8>, bytes: &[u8]) -> Result<(), AllocError>
     ensures writes { OnOk result (out.new.items ≡ out.old.items ++ hex_of bytes.now) }
     ensures keeps { Grown out.old.items out.new.items }

@@ -60,6 +60,7 @@ fn word_len(text: &[u8]) -> usize
 }
 
 /// The first word of the text, with the blanks in front of it passed over, and what follows it.
+#[tactic(auto, using(crate::proofs::WordLaws::splits_as))]
 pub fn next_word(text: &[u8]) -> Split<'_>
     ensures word { result.word.now ≡ word_of text.now }
     ensures rest { result.rest.now ≡ after_word text.now }

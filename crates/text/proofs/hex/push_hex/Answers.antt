@@ -1,15 +1,9 @@
 use Rattle.std.proofs.Common.{arith}
 use Rattle.std.specs.String.{string_bytes}
-use Rattle.text.proofs.HexLaws.{reads_back, writes_on}
+use Rattle.text.proofs.HexLaws.{writes_on}
 use Rattle.text.proofs.hex.push_hex.Goals as goal
-
-pub returns-in_err-write-clause-reads_back : goal.returns-in_err-write-clause-reads_back
-returns-in_err-write-clause-reads_back c = reads_back c.args.bytes.now (λ i. omega (arith, c.type_inv.bytes i))
 
 pub loop-byte-preserved : goal.loop-byte-preserved
 loop-byte-preserved c =
     let wrote = rw (c.laid_out.ensures, c.in_radix.ensures) at c.in_ok-write.ensures.bytes in
     writes_on (string_bytes c.loop-byte.text) (string_bytes c.write.new.self) c.args.bytes.now c.loop-byte.byte-index c.loop-byte-test.true (omega (arith, c.type_inv.bytes c.loop-byte.byte-index)) c.loop-byte.invariant wrote
-
-pub returns-clause-reads_back : goal.returns-clause-reads_back
-returns-clause-reads_back c = reads_back c.args.bytes.now (λ i. omega (arith, c.type_inv.bytes i))

@@ -1,4 +1,4 @@
-use Rattle.std.proofs.Common.{length, drop, not, unwrap_or, ap, ◌∙◌, rules, tests}
+use Rattle.std.proofs.Common.{drop, not, ap, ◌∙◌, rules, tests}
 use Rattle.std.proofs.lemmas.Iterator.{YieldsList-from_slice}
 use Rattle.std.proofs.lemmas.Iterator.Search.{position_from_yields_List}
 use Rattle.std.proofs.lemmas.List.{take_rest}
@@ -9,5 +9,5 @@ use Rattle.text.proofs.word.skip_blanks.Goals as goal
 pub returns : goal.returns
 returns c =
     let found = position_from_yields_List (λ b. not (is_blank b)) _ _ c.position-start.result c.position-start.ensures.ran (YieldsList-from_slice c.args.text.now cc) (λ x b q k. search (rules, tests)) in
-    let start = c.unwrap_or.ensures ∙ ap (λ o. unwrap_or o (length c.args.text.now)) found ∙ place (λ b. not (is_blank b)) c.args.text.now in
+    let start = place (λ b. not (is_blank b)) c.args.text.now _ _ found c.unwrap_or.ensures in
     take_rest c.args.text.now c.unwrap_or.result ∙ ap (λ i. drop i c.args.text.now) start ∙ blanks_passed c.args.text.now
