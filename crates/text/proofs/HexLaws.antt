@@ -1,12 +1,12 @@
 -- What is written in hexadecimal reads back, and has one form.
 use Rattle.std.proofs.Common.{◌≡◌, ℕ, suc, ◌+◌, ◌-◌, ◌*◌, ◌/◌, ◌%◌, ◌<◌, List, [], ◌∷◌, ◌++◌, map, length, get_or, take, drop, true, false, ◌^◌, Some, None, Option, sym, refl, ap, ◌∙◌, arith, Fits, w8}
-use Rattle.std.proofs.lemmas.List.{append_assoc, append-nil, take_more, take_rest}
+use Rattle.std.proofs.lemmas.List.{append_assoc, take_more, take_rest}
 use Rattle.std.proofs.lemmas.Bool.Decides.{nat_tests}
 use Rattle.std.proofs.lemmas.Fmt.{hex_byte}
 use Rattle.std.specs.Fmt.{digits, digit_glyph, padded_integral, format_spec}
 use Rattle.std.specs.Option.{option_map}
 use Rattle.std.specs.Char.{to_ascii_uppercase}
-use Rattle.text.specs.Hex.{hex_digit, hex_of, hex_value, with_byte, bytes_of, HexReadsBack}
+use Rattle.text.specs.Hex.{hex_digit, hex_of, hex_value, with_byte, bytes_of, HexReadsBack, HexHasOneForm}
 
 -- one byte more is written behind
 hex_of-push : (xs : List ℕ) (b : ℕ) → hex_of (xs ++ (b ∷ [])) ≡ hex_of xs ++ (hex_digit (b / 16) ∷ (hex_digit (b % 16) ∷ []))
@@ -53,7 +53,7 @@ parts (Some h) (Some l) (Some zs) bs e =
     record { high = h; low = l; tail = zs; high_is = refl; low_is = refl; tail_is = refl; whole = cc }
 
 -- what is read has one form
-pub one_form : (text bs : List ℕ) → bytes_of text ≡ Some bs → map to_ascii_uppercase text ≡ hex_of bs
+one_form : (text bs : List ℕ) → bytes_of text ≡ Some bs → map to_ascii_uppercase text ≡ hex_of bs
 one_form [] bs e = let z : bs ≡ [] = cc in rw z refl
 one_form (h ∷ []) bs e = cc
 one_form (h ∷ (l ∷ text)) bs e =
@@ -65,6 +65,10 @@ one_form (h ∷ (l ∷ text)) bs e =
     let front : (p.high * 16 + p.low) / 16 ≡ p.high = omega arith in
     let back : (p.high * 16 + p.low) % 16 ≡ p.low = omega arith in
     rw (whole, front, back, high.1, low.1, rest) refl
+
+pub has_one_form : (text : List ℕ) (o : Option (List ℕ)) → o ≡ bytes_of text → HexHasOneForm text o
+has_one_form text None e = tt
+has_one_form text (Some bs) e = one_form text bs (sym e)
 
 -- `{:02X}` writes the digits of the table
 same_glyph : (d : ℕ) → digit_glyph true d ≡ hex_digit d
@@ -88,8 +92,3 @@ reads_on xs zs [] h l o high low e inv = cc
 reads_on xs zs (a ∷ []) h l o high low e inv = cc
 reads_on xs zs (a ∷ (b ∷ t)) h l o high low e inv =
     ap (λ z. option_map (λ ys. zs ++ ys) (bytes_of z)) (take_rest (a ∷ (b ∷ t)) 2) ∙ ap (λ z. option_map (λ ys. z ++ ys) (bytes_of t)) e ∙ behind xs h l (bytes_of t) ∙ ap (λ z. option_map (λ ys. xs ++ ys) (with_byte (Some h) z (bytes_of t))) (sym low) ∙ ap (λ z. option_map (λ ys. xs ++ ys) (with_byte z (hex_value b) (bytes_of t))) (sym high) ∙ inv
-
--- the reader's end
-pub reads_all : (xs rest : List ℕ) (o : Option (List ℕ)) → length rest ≡ 0 → option_map (λ ys. xs ++ ys) (bytes_of rest) ≡ o → Some xs ≡ o
-reads_all xs [] o h e = ap Some (sym (append-nil xs)) ∙ e
-reads_all xs (a ∷ rest) o h e = absurd (omega arith)

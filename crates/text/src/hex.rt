@@ -57,11 +57,7 @@ pub fn read_hex(heap: Global, text: &[u8]) -> Result<Option<Vec<u8>>, AllocError
         bytes.push(high * BASE + low)?;
         rest = tail;
     }
-    if rest.is_empty() {
-        Ok(Some(bytes))
-    } else {
-        Ok(None)
-    }
+    Ok(rest.is_empty().then_some(bytes))
 }
 
 /// The bytes that a word spells: `-` for none, else pairs of digits of either case; `None` for any other word.
