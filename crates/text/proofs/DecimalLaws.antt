@@ -1,4 +1,4 @@
--- Decimal text, one digit after another, and what `parse` makes of it.
+-- What `parse` makes of decimal text, and of any other.
 use Rattle.std.proofs.Common.{◌≡◌, ℕ, ◌^◌, ◌<◌, ◌≤◌, true, false, ◌&&◌, ◌||◌, eqb, ltb, List, length, get_or, Some, None, Ok, Err, IsUtf8, decimal, Option, Result, sym, refl, ap, ◌∙◌, subst, inl, inr, arith}
 use Rattle.std.proofs.lemmas.Fmt.{digits_value-decimal, decimal_digit, decimal_nonempty, decimal-digits_value, digits_decimal, first_decimal, IsAscii-decimal, parse-decimal}
 use Rattle.std.proofs.lemmas.Str.Parse.{IsNumeralModel, numerals_by_value, tells_digits, digit_at, parse_plain}

@@ -1,7 +1,9 @@
-//! The text side of a console: hexadecimal and decimal, read and written, and the words of a line.
+//! The text side of a console: hexadecimal and decimal, read and written, whatever else is displayed, and the words of
+//! a line.
 //!
-//! Everything is over bytes, so that any bytes whatever get an answer: what is no number is refused by `None`, and
-//! nothing is asked of the caller. What a writer appends, the reader of the same module reads back.
+//! Everything is over bytes, so that any bytes whatever get an answer: what is no number is refused by `None`, a word
+//! missing or left over by a `WordFault`, and nothing is asked of the caller. What a writer of numbers or of bytes
+//! appends, the reader of the same module reads back.
 #![tactic(auto)]
 
 pub mod decimal;
