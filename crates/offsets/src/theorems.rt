@@ -1,6 +1,7 @@
 //! What is true of every offsets journal, over its meaning alone.
 
-ghost use Rattle.offsets.specs.Laws.{EntriesStay, RestartsOnce, StatesStayGood};
+ghost use Rattle.power.specs.Laws.{RestartsOnce, StatesStayGood};
+ghost use Rattle.offsets.specs.Laws.{offsets_rules, EntriesStay};
 ghost use Rattle.offsets.specs.Outcomes.{OutcomesAsAllowed};
 
 /// What a restart may leave, by lists of entries, is what the rule in words allows, by positions: every
@@ -12,7 +13,7 @@ pub fn outcomes_as_allowed()
 /// From a state, no call, power failure or restart leads to anything but a state; so the watermark never
 /// exceeds the size that survives.
 pub fn states_stay_good()
-    ensures { StatesStayGood }
+    ensures { StatesStayGood offsets_rules }
 {}
 
 /// Over any run of calls, power failures and restarts, every safe entry that no call cut, pruned or
@@ -23,5 +24,5 @@ pub fn entries_stay()
 
 /// A restart after a restart changes nothing.
 pub fn restarts_once()
-    ensures { RestartsOnce }
+    ensures { RestartsOnce offsets_rules }
 {}

@@ -10,7 +10,8 @@ mod judge;
 mod shelf;
 mod theorems;
 
-pub use judge::{MAX_NUMBER, holds, test_add, test_make};
+pub use judge::{holds, test_add, test_make};
+pub use power::MAX_NUMBER;
 pub use shelf::Shelf;
 pub use theorems::{
     failed_as_restart, outcomes_as_allowed, restarts_once, safe_bytes_stay, states_stay_good,

@@ -1,6 +1,7 @@
 //! What is true of every shelf, over its meaning alone.
 
-ghost use Rattle.shelf.specs.Laws.{FailedAsRestart, RestartsOnce, SafeBytesStay, StatesStayGood};
+ghost use Rattle.power.specs.Laws.{RestartsOnce, StatesStayGood};
+ghost use Rattle.shelf.specs.Laws.{shelf_rules, FailedAsRestart, SafeBytesStay};
 ghost use Rattle.shelf.specs.Outcomes.{OutcomesAsAllowed};
 
 /// What a restart may leave, blob by blob, is what the rule in words allows: every outcome keeps the
@@ -17,14 +18,14 @@ pub fn safe_bytes_stay()
 
 /// A restart after a restart changes nothing.
 pub fn restarts_once()
-    ensures { RestartsOnce }
+    ensures { RestartsOnce shelf_rules }
 {}
 
 /// From a state of a shelf, no call, power failure or restart leads to anything but a state: numbers
 /// rise and are at most 2^56, no blob is longer than the blob size or more safe than long, and there are
 /// no more blobs than the maximum.
 pub fn states_stay_good()
-    ensures { StatesStayGood }
+    ensures { StatesStayGood shelf_rules }
 {}
 
 /// A restart after a failed call leaves what a restart with no failed call leaves of one state, or for a
