@@ -41,7 +41,7 @@ damaged l = record { layer = l; number = Some 10; detail = Kind 8 }
 
 -- a frame that cannot be read, by its blob and the byte where it begins
 abbrev pub unread : ℕ → Place → Refusal
-unread n place = record { layer = layer.Frames; number = Some n; detail = Byte place.blob place.byte }
+unread n place = record { layer = layer.Frames; number = Some n; detail = Byte place }
 
 abbrev pub cause_refusal : ShelfCause → Refusal
 cause_refusal shelf.Missing = unnumbered layer.Shelf

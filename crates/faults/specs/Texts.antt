@@ -34,7 +34,7 @@ detail_text Nothing = []
 detail_text (Reason reason) = codes " reason " ++ decimal reason.number
 detail_text (Kind kind) = codes " kind " ++ decimal kind
 detail_text (KindOfBlob kind blob) = codes " kind " ++ (decimal kind ++ (codes " blob " ++ decimal blob))
-detail_text (Byte blob byte) = codes " blob " ++ (decimal blob ++ (codes " byte " ++ decimal byte))
+detail_text (Byte place) = codes " blob " ++ (decimal place.blob ++ (codes " byte " ++ decimal place.byte))
 
 -- a refusal: its number and its values
 abbrev pub refusal_text : Refusal → List ℕ

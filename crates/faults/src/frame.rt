@@ -45,14 +45,10 @@ impl From<FrameFault> for Refusal {
             FrameFault::BadPrefix(place) => (11, place),
             FrameFault::ItemUnreadable(place) => (12, place),
         };
-        let detail = Detail::Byte {
-            blob: place.blob,
-            byte: place.byte,
-        };
         Refusal {
             layer: Layer::Frames,
             number: Some(number),
-            detail,
+            detail: Detail::Byte(place),
         }
     }
 }

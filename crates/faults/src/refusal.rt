@@ -3,6 +3,7 @@
 ghost use Rattle.std.specs.Prelude.{Some};
 ghost use Rattle.faults.specs.Texts.{detail_text, refusal_text};
 
+use crate::frame::Place;
 use crate::reason::Reason;
 use std::fmt;
 
@@ -21,6 +22,7 @@ pub enum Layer {
 #[derive(Clone, Copy, PartialEq, Eq)]
 pub enum Detail {
     /// The number says it all.
+    // One of five answers to what goes with a number: an `Option` around the other four would be taken apart at the same places.
     Nothing,
     /// The reason for which an item kind refuses an item.
     Reason(Reason),
@@ -31,7 +33,7 @@ pub enum Detail {
     // A kind as above, shown with a blob.
     KindOfBlob { kind: u8, blob: u64 },
     /// The blob, and the byte in it where the frame begins.
-    Byte { blob: u64, byte: u64 },
+    Byte(Place),
 }
 
 /// A fault as a user is shown it.
@@ -55,7 +57,7 @@ impl fmt::Display for Detail {
             Detail::Reason(reason) => write!(f, " reason {}", reason.number),
             Detail::Kind(kind) => write!(f, " kind {kind}"),
             Detail::KindOfBlob { kind, blob } => write!(f, " kind {kind} blob {blob}"),
-            Detail::Byte { blob, byte } => write!(f, " blob {blob} byte {byte}"),
+            Detail::Byte(Place { blob, byte }) => write!(f, " blob {blob} byte {byte}"),
         }
     }
 }
