@@ -42,13 +42,14 @@ fn push_piece<K: ItemText>(
             Ok(None)
         }
         Err(fault) => {
-            push_refusal(out, fault.refusal())?;
+            push_refusal(out, fault.into())?;
             Ok(None)
         }
     }
 }
 
 // Appends the report of a blob whose frames are counted from position 0 on.
+// The loop stays one: what stands at a byte says where the next frame begins, and the index is what is told.
 pub(crate) fn push_blob<K: ItemText>(
     out: &mut Vec<u8>,
     kind: &K,

@@ -3,16 +3,14 @@
 //! Words are separated by spaces and tabs. A word that begins with `#`, with all that follows it, is a
 //! comment, and a line with no word before it is no command and no error.
 
-ghost use Rattle.std.specs.Prelude.{◌≡◌};
-ghost use Rattle.script.specs.Commands.{is_end, same_bytes, kind_of, shown, last_of, spelled, scan_command, command_of};
+ghost use Rattle.std.specs.Prelude.{◌≡◌, Some};
+ghost use Rattle.script.specs.Commands.{word_fault, kind_in, spelled, scanned, fault_text, scan_command, command_of};
 
-use text::word::{Split, next_word};
+use std::fmt;
+use text::word::{Split, WordFault, first_word, is_end, last_word, next_word};
 
 /// The most bytes that a line may have.
 pub const MAX_LINE: usize = 65536;
-
-/// The byte that a comment begins with.
-const COMMENT: u8 = b'#';
 
 /// An item kind, as a script names it.
 #[derive(Clone, Copy)]
@@ -26,8 +24,6 @@ pub enum KindName {
 /// What a line asks for.
 #[derive(Clone, Copy)]
 pub enum Command<'a> {
-    /// Nothing: a blank line, or a comment.
-    Nothing,
     /// `scan KIND HEX`: the frames of a blob.
     Scan {
         /// What the frames hold.
@@ -54,76 +50,63 @@ pub enum ScriptFault {
     BadHex,
 }
 
-// Whether the words of a line end here: no word is left, or a comment begins.
-fn is_end(word: &[u8]) -> bool
-    ensures { result ≡ is_end word.now }
-{
-    match word.first() {
-        Some(first) => *first == COMMENT,
-        None => true,
+impl fmt::Display for ScriptFault {
+    ghost output = { λ e. Some (fault_text e) };
+
+    fn fmt<W: fmt::Write>(&self, f: &mut fmt::Formatter<W>) -> fmt::Result {
+        f.write_str(match self {
+            ScriptFault::Overlong => "the line is longer than 65536 bytes",
+            ScriptFault::UnknownCommand => "unknown command",
+            ScriptFault::UnknownKind => "unknown item kind, not line or event",
+            ScriptFault::MissingWord => "a word is missing",
+            ScriptFault::ExtraWord => "a word too many",
+            ScriptFault::BadHex => "not pairs of hexadecimal digits",
+        })
     }
 }
 
-// Whether two words are the same.
-pub(crate) fn is_word(word: &[u8], other: &[u8]) -> bool
-    ensures { result ≡ same_bytes word.now other.now }
-{
-    word == other
+impl From<WordFault> for ScriptFault {
+    ghost from_gives = { λ e r. r ≡ word_fault e };
+
+    fn from(fault: WordFault) -> ScriptFault {
+        match fault {
+            WordFault::Missing => ScriptFault::MissingWord,
+            WordFault::Extra => ScriptFault::ExtraWord,
+        }
+    }
 }
 
-// The item kind that a word names.
-fn read_kind(word: &[u8]) -> Result<KindName, ScriptFault>
-    ensures { result ≡ kind_of word.now }
+// The item kind that the first word names.
+fn read_kind(text: &[u8]) -> Result<KindName, ScriptFault>
+    ensures { result ≡ kind_in text.now }
 {
-    if is_end(word) {
-        return Err(ScriptFault::MissingWord);
+    match first_word(text)?.word {
+        b"line" => Ok(KindName::Line),
+        b"event" => Ok(KindName::Event),
+        _ => Err(ScriptFault::UnknownKind),
     }
-    if is_word(word, b"line") {
-        return Ok(KindName::Line);
-    }
-    if is_word(word, b"event") {
-        return Ok(KindName::Event);
-    }
-    Err(ScriptFault::UnknownKind)
-}
-
-// The last word of a command.
-fn read_last(text: &[u8]) -> Result<&[u8], ScriptFault>
-    ensures { shown result ≡ last_of text.now }
-{
-    let Split { word, rest } = next_word(text);
-    if is_end(word) {
-        return Err(ScriptFault::MissingWord);
-    }
-    if !is_end(next_word(rest).word) {
-        return Err(ScriptFault::ExtraWord);
-    }
-    Ok(word)
 }
 
 // `scan KIND HEX`, from its second word on.
 fn read_scan(text: &[u8]) -> Result<Command<'_>, ScriptFault>
-    ensures { spelled result ≡ scan_command text.now }
+    ensures { scanned result ≡ scan_command text.now }
 {
-    let Split { word, rest } = next_word(text);
-    let kind = read_kind(word)?;
-    let hex = read_last(rest)?;
+    let kind = read_kind(text)?;
+    let hex = last_word(next_word(text).rest)?;
     Ok(Command::Scan { kind, hex })
 }
 
-/// The command that a line is, or why it is none.
-pub fn read_command(line: &[u8]) -> Result<Command<'_>, ScriptFault>
+/// The command that a line is, or why it is none; `None` for a blank line or a comment.
+pub fn read_command(line: &[u8]) -> Result<Option<Command<'_>>, ScriptFault>
     ensures { spelled result ≡ command_of line.now }
 {
     if line.len() > MAX_LINE {
         return Err(ScriptFault::Overlong);
     }
     let Split { word, rest } = next_word(line);
-    if is_end(word) {
-        return Ok(Command::Nothing);
+    match word {
+        b"scan" => Ok(Some(read_scan(rest)?)),
+        _ if is_end(word) => Ok(None),
+        _ => Err(ScriptFault::UnknownCommand),
     }
-    if is_word(word, b"scan") {
-        return read_scan(rest);
-    }
-    Err(ScriptFault::UnknownCommand)
 }

@@ -1,4 +1,3 @@
-mod Joining
 pub mod Listing
 mod Printing
 mod Settings

@@ -9,6 +9,7 @@ use Rattle.shelf.specs.Questions.{count_of, number_in, number_at}
 use Rattle.shelf.proofs.Lookups.{head_is, tail_is}
 use Rattle.shelf_script.specs.Outcomes.{blob_line, blobs_text}
 use Rattle.shelf_script.specs.Prints.{Appended, BlobTold, AllTold, Printed}
+use Rattle.shelf_script.proofs.Printing.{ok_is}
 use Rattle.shelf_script.specs.declared.print.PrintFault.{PrintFault}
 use Rattle.shelf_script.specs.declared.print.PrintFault.TheVariants.{Shelf, Memory}
 
@@ -47,9 +48,6 @@ Sofar i s before b after = Appended (blobs_text (take i s.blobs)) s before b aft
 
 pub none_yet : (s : ShelfState) (before : List ℕ) (b : Sight shelf_rules) → b.on → b.view ≡ s → Sofar 0 s before b before
 none_yet s before b on same = record { on = on; same = same; says = sym (append-nil before) }
-
-ok_is : {x y : ℕ} → ◌≡◌ {A = Result ℕ ShelfFault} (Ok x) (Ok y) → x ≡ y
-ok_is p = cc
 
 -- one blob more
 pub one_more : (i n : ℕ) (s t : ShelfState) (before mid after : List ℕ) (a b : Sight shelf_rules) → Rising s.blobs → i < length s.blobs → Sofar i s before a mid → t ≡ s → Ok n ≡ number_at i s → BlobTold (Ok tt) (blob_of n t.blobs) t mid b after → Sofar (i + 1) s before b after
@@ -104,7 +102,7 @@ first_refused a b before r e q y asked is f g =
 
 -- a blob that is there is shown, or there is no memory for it
 pub blob_refused : (i n : ℕ) (s t : ShelfState) (before mid after : List ℕ) (b : Sight shelf_rules) (y : PrintFault) → Rising s.blobs → i < length s.blobs → t ≡ s → Ok n ≡ number_at i s → BlobTold (Err y) (blob_of n t.blobs) t mid b after → AllTold s before (Err y) b after
-blob_refused i n s t before mid after b Memory rising h e named told = tt
+blob_refused i n s t before mid after b (Memory x) rising h e named told = tt
 blob_refused i n s t before mid after b (Shelf f) rising h e named told =
     let p = at_place s.blobs i i h in
     let x = p.blob in

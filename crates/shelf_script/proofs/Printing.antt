@@ -12,7 +12,8 @@ use Rattle.shelf.proofs.Lookups.{found_number}
 use Rattle.shelf_script.specs.Outcomes.{blob_text}
 use Rattle.shelf_script.specs.Prints.{BytesTold, BlobTold}
 
-ok_is : {A : Type 0} {x y : A} → ◌≡◌ {A = Result A ShelfFault} (Ok x) (Ok y) → x ≡ y
+-- what was told is told once
+pub ok_is : {A : Type 0} {x y : A} → ◌≡◌ {A = Result A ShelfFault} (Ok x) (Ok y) → x ≡ y
 ok_is p = cc
 
 -- a buffer as long as the blob was filled with all of it

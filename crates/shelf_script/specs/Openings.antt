@@ -5,15 +5,16 @@
 --
 -- Assumes nothing.
 use Rattle.std.specs.Prelude.{ℕ, Bool, cond, List, length, take, drop, Some, None, Ok, Err, codes, Option, Result}
+use Rattle.std.specs.Option.{ok_or}
 use Rattle.std.specs.Str.{bytes_eq}
 use Rattle.text.specs.Decimal.{number_of}
-use Rattle.text.specs.Words.{word_of, after_word, is_end}
+use Rattle.text.specs.Words.{word_of, after_word, first_in, and_then, told_as}
 use Rattle.shelf_script.specs.declared.opening.Stack.{Stack}
 use Rattle.shelf_script.specs.declared.opening.Stack.TheVariants.{Memory, BufferMemory, CutterMemory, BufferCutterMemory, CutterBufferMemory}
 use Rattle.shelf_script.specs.declared.opening.Opening.{Opening}
 use Rattle.shelf_script.specs.declared.order.LineFault.{LineFault}
-use Rattle.shelf_script.specs.declared.order.LineFault.TheVariants.{UnknownStack, MissingWord, BadSetting}
-use Rattle.shelf_script.specs.Orders.{and_then, end_in}
+use Rattle.shelf_script.specs.declared.order.LineFault.TheVariants.{UnknownStack, BadSetting}
+use Rattle.shelf_script.specs.Orders.{word_fault, end_in}
 
 -- a line whose first word is `shelf`
 abbrev pub is_opening : List ℕ → Bool
@@ -29,23 +30,16 @@ stack_of w =
     (cond (bytes_eq w (codes "cutter/buffer/memory")) (Some CutterBufferMemory)
     None))))
 
-abbrev pub or_unknown : Option Stack → Result Stack LineFault
-or_unknown (Some s) = Ok s
-or_unknown None = Err UnknownStack
-
+-- the stack that the first word names
 abbrev pub stack_in : List ℕ → Result Stack LineFault
-stack_in text = cond (is_end (word_of text)) (Err MissingWord) (or_unknown (stack_of (word_of text)))
-
-abbrev pub or_bad_setting : Option ℕ → Result ℕ LineFault
-or_bad_setting (Some n) = Ok n
-or_bad_setting None = Err BadSetting
+stack_in text = and_then (told_as word_fault (first_in text)) (λ w. ok_or (stack_of w) UnknownStack)
 
 -- the number behind a name in a word
 abbrev pub setting_of : List ℕ → List ℕ → Result ℕ LineFault
-setting_of name w = cond (bytes_eq (take (length name) w) name) (or_bad_setting (number_of (drop (length name) w))) (Err BadSetting)
+setting_of name w = cond (bytes_eq (take (length name) w) name) (ok_or (number_of (drop (length name) w)) BadSetting) (Err BadSetting)
 
 abbrev pub setting_in : List ℕ → List ℕ → Result ℕ LineFault
-setting_in name text = cond (is_end (word_of text)) (Err MissingWord) (setting_of name (word_of text))
+setting_in name text = and_then (told_as word_fault (first_in text)) (setting_of name)
 
 -- `STACK max=N size=N`
 abbrev pub opening_in : List ℕ → Result Opening LineFault

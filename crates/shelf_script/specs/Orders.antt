@@ -7,16 +7,19 @@
 --
 -- Assumes nothing.
 use Rattle.std.specs.Prelude.{ℕ, cond, List, Some, None, Ok, Err, codes, Option, Result}
-use Rattle.std.specs.Borrow.{Bor}
+use Rattle.std.specs.Option.{ok_or}
 use Rattle.std.specs.Str.{bytes_eq}
 use Rattle.text.specs.Decimal.{number_of}
-use Rattle.text.specs.Words.{word_of, after_word, is_end}
+use Rattle.text.specs.declared.word.WordFault.{WordFault}
+use Rattle.text.specs.declared.word.WordFault.TheVariants.{Missing, Extra}
+use Rattle.text.specs.Words.{word_of, after_word, is_end, first_in, and_then, told_as}
+use Rattle.text.specs.Words as words
 use Rattle.shelf_script.specs.declared.order.Verb.{Verb}
 use Rattle.shelf_script.specs.declared.order.Verb.TheVariants as verb
 use Rattle.shelf_script.specs.declared.order.Order.{Order}
 use Rattle.shelf_script.specs.declared.order.Order.TheVariants as order
 use Rattle.shelf_script.specs.declared.order.LineFault.{LineFault}
-use Rattle.shelf_script.specs.declared.order.LineFault.TheVariants.{UnknownCommand, MissingWord, ExtraWord, BadNumber}
+use Rattle.shelf_script.specs.declared.order.LineFault.TheVariants.{UnknownCommand, NoShelf, UnknownStack, MissingWord, ExtraWord, BadNumber, BadSetting, BadHex}
 
 -- an order by what it says
 pub data Asked : Type 0 where
@@ -28,6 +31,17 @@ pub data Asked : Type 0 where
   fail : ℕ → ℕ → Asked
   restart : Asked
   print : Asked
+
+-- why a line is no order, in words
+abbrev pub fault_text : LineFault → List ℕ
+fault_text UnknownCommand = codes "unknown command"
+fault_text NoShelf = codes "no shelf is open"
+fault_text UnknownStack = codes "unknown stack of shelves"
+fault_text MissingWord = codes "a word is missing"
+fault_text ExtraWord = codes "a word too many"
+fault_text BadNumber = codes "not a decimal number below 2^64"
+fault_text BadSetting = codes "not max=NUMBER size=NUMBER"
+fault_text BadHex = codes "not pairs of hexadecimal digits"
 
 -- the same of a borrowed order
 abbrev pub asked : Order → Asked
@@ -44,34 +58,26 @@ abbrev pub spelled : Result Order LineFault → Result Asked LineFault
 spelled (Ok o) = Ok (asked o)
 spelled (Err e) = Err e
 
-abbrev pub or_bad : Option ℕ → Result ℕ LineFault
-or_bad (Some n) = Ok n
-or_bad None = Err BadNumber
+-- why the words of a line are not those that belong there
+abbrev pub word_fault : WordFault → LineFault
+word_fault Missing = MissingWord
+word_fault Extra = ExtraWord
 
 -- the number that the first word of a text writes
 abbrev pub number_in : List ℕ → Result ℕ LineFault
-number_in text = cond (is_end (word_of text)) (Err MissingWord) (or_bad (number_of (word_of text)))
+number_in text = and_then (told_as word_fault (first_in text)) (λ w. ok_or (number_of w) BadNumber)
 
 -- no word follows
 abbrev pub end_in : List ℕ → Result (Unit {0}) LineFault
-end_in text = cond (is_end (word_of text)) (Ok tt) (Err ExtraWord)
+end_in text = told_as word_fault (words.end_in text)
 
-abbrev pub and_then : {A B : Type 0} → Result A LineFault → (A → Result B LineFault) → Result B LineFault
-and_then (Ok x) f = f x
-and_then (Err e) f = Err e
+-- the last word of a line
+abbrev pub last_in : List ℕ → Result (List ℕ) LineFault
+last_in text = told_as word_fault (words.last_in text)
 
 -- one number, and no more
 abbrev pub one_in : List ℕ → Result ℕ LineFault
 one_in text = and_then (number_in text) (λ n. and_then (end_in (after_word text)) (λ _. Ok n))
-
--- the last word of a line
-abbrev pub last_in : List ℕ → Result (List ℕ) LineFault
-last_in text = cond (is_end (word_of text)) (Err MissingWord) (and_then (end_in (after_word text)) (λ _. Ok (word_of text)))
-
--- a borrowed word by its bytes
-abbrev pub shown : Result (Bor (List ℕ)) LineFault → Result (List ℕ) LineFault
-shown (Ok w) = Ok w.now
-shown (Err e) = Err e
 
 -- one number, or 0 where no word follows
 abbrev pub one_or_none : List ℕ → Result ℕ LineFault

@@ -7,8 +7,7 @@
 --
 -- Assumes nothing.
 use Rattle.std.specs.Prelude.{◌≡◌, ℕ, List, [], ◌∷◌, ◌++◌, Some, None, Ok, Err, codes, Option, Result}
-use Rattle.faults.specs.declared.shelf.ShelfCause.{ShelfCause}
-use Rattle.faults.specs.declared.shelf.ShelfCause.TheVariants.{Missing, Present, Full, TooLong, OutOfRange, Down, Damaged}
+use Rattle.faults.specs.Texts.{cause_name}
 use Rattle.faults.specs.declared.shelf.ShelfFault.{ShelfFault}
 use Rattle.power.specs.Sights.{Sight, Same, Wrote, Woken, Asleep}
 use Rattle.shelf.specs.Shelves.{Blob, Call}
@@ -16,19 +15,10 @@ use Rattle.shelf.specs.Shelves as shelves
 use Rattle.shelf.specs.Laws.{shelf_rules}
 use Rattle.text.specs.Decimal.{labelled}
 use Rattle.text.specs.Hex.{bytes_in, bytes_text}
+use Rattle.text.specs.Shown.{error_text}
 use Rattle.shelf_script.specs.declared.order.LineFault.{LineFault}
-use Rattle.shelf_script.specs.declared.order.LineFault.TheVariants.{UnknownCommand, NoShelf, UnknownStack, MissingWord, ExtraWord, BadNumber, BadSetting, BadHex}
-use Rattle.shelf_script.specs.Orders.{Asked, make, add, cut, remove, sync, fail, restart, print, order_of}
-
--- what a cause is called
-abbrev pub cause_name : ShelfCause → List ℕ
-cause_name Missing = codes "missing"
-cause_name Present = codes "present"
-cause_name Full = codes "full"
-cause_name TooLong = codes "too-long"
-cause_name OutOfRange = codes "out-of-range"
-cause_name Down = codes "down"
-cause_name Damaged = codes "damaged"
+use Rattle.shelf_script.specs.declared.order.LineFault.TheVariants.{BadHex}
+use Rattle.shelf_script.specs.Orders.{Asked, make, add, cut, remove, sync, fail, restart, print, fault_text, order_of}
 
 abbrev pub refused_text : ShelfFault → List ℕ
 refused_text e = codes " -> refused " ++ cause_name e.cause
@@ -41,19 +31,9 @@ outcome_text (Err e) = refused_text e
 abbrev pub outcome_line : List ℕ → Result (Unit {0}) ShelfFault → List ℕ
 outcome_line line r = line ++ (outcome_text r ++ (10 ∷ []))
 
--- why a line is no order, in words
-abbrev pub fault_text : LineFault → List ℕ
-fault_text UnknownCommand = codes "unknown command"
-fault_text NoShelf = codes "no shelf is open"
-fault_text UnknownStack = codes "unknown stack of shelves"
-fault_text MissingWord = codes "a word is missing"
-fault_text ExtraWord = codes "a word too many"
-fault_text BadNumber = codes "not a decimal number below 2^64"
-fault_text BadSetting = codes "not max=NUMBER size=NUMBER"
-fault_text BadHex = codes "not pairs of hexadecimal digits"
-
+-- `error: ` and why a line is no order
 abbrev pub error_line : LineFault → List ℕ
-error_line fault = codes "error: " ++ (fault_text fault ++ (10 ∷ []))
+error_line fault = error_text (fault_text fault)
 
 -- the line of a blob by its number, its safe count and its bytes
 abbrev pub blob_text : ℕ → ℕ → List ℕ → List ℕ

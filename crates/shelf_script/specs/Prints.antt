@@ -29,7 +29,7 @@ pub record Has {V : Type 0} (items : V → List ℕ) (v : V) (x : Blob) (s : She
 abbrev pub BytesTold : {V : Type 0} → (V → List ℕ) → Result V PrintFault → Option Blob → ShelfState → Sight shelf_rules → Type 0
 BytesTold items (Ok v) None s b = ⊥
 BytesTold items (Ok v) (Some x) s b = Has items v x s b
-BytesTold items (Err Memory) o s b = Unit {0}
+BytesTold items (Err (Memory e)) o s b = Unit {0}
 BytesTold items (Err (Shelf e)) None s b = Unit {0}
 BytesTold items (Err (Shelf e)) (Some x) s b = ⊥
 
@@ -40,7 +40,7 @@ pub record BytesRead {V : Type 0} (items : V → List ℕ) (n : ℕ) (a : Sight 
 abbrev pub BlobTold : Result (Unit {0}) PrintFault → Option Blob → ShelfState → List ℕ → Sight shelf_rules → List ℕ → Type 0
 BlobTold (Ok _) None s before b after = ⊥
 BlobTold (Ok _) (Some x) s before b after = Appended (blob_line x) s before b after
-BlobTold (Err Memory) o s before b after = Unit {0}
+BlobTold (Err (Memory e)) o s before b after = Unit {0}
 BlobTold (Err (Shelf e)) None s before b after = Unit {0}
 BlobTold (Err (Shelf e)) (Some x) s before b after = ⊥
 
@@ -50,12 +50,12 @@ pub record BlobPrinted (n : ℕ) (a : Sight shelf_rules) (before : List ℕ) (r 
 
 abbrev pub AllTold : ShelfState → List ℕ → Result (Unit {0}) PrintFault → Sight shelf_rules → List ℕ → Type 0
 AllTold s before (Ok _) b after = Appended (blobs_text s.blobs) s before b after
-AllTold s before (Err Memory) b after = Unit {0}
+AllTold s before (Err (Memory e)) b after = Unit {0}
 AllTold s before (Err (Shelf e)) b after = ⊥
 
 abbrev pub fault_of : Result (Unit {0}) PrintFault → Result (Unit {0}) ShelfFault → Type 0
 fault_of (Ok _) q = ⊥
-fault_of (Err Memory) q = ⊥
+fault_of (Err (Memory e)) q = ⊥
 fault_of (Err (Shelf e)) q = q ≡ Err e
 
 -- the power was off, and nothing was appended

@@ -1,4 +1,6 @@
 //! What a line of a script does to a shelf, and what it is answered.
+// Each function here makes the text that it answers, and takes heap, shelf and line one by one: a struct around a lent
+// shelf would hide from the clauses what the shelf holds afterwards, and a closure that fills a text is no plainer.
 
 ghost use Rattle.std.specs.Prelude.{◌≡◌, IfOk};
 ghost use Rattle.text.specs.Hex.{bytes_in};
@@ -6,19 +8,20 @@ ghost use Rattle.shelf_script.specs.Orders.{asked};
 ghost use Rattle.shelf_script.specs.Outcomes.{error_line, outcome_line, Added, Shown, Obeyed, Answered};
 
 use crate::order::{LineFault, Order, read_order};
-use crate::outcome::{push_error, push_outcome};
+use crate::outcome::push_outcome;
 use crate::print::{PrintFault, push_blobs};
 use faults::ShelfFault;
 use shelf::Shelf;
 use std::alloc::{AllocError, Global};
 use text::hex::read_bytes;
+use text::shown::push_error;
 
 /// Why a line is no order, as a line of its own.
 pub fn error_text(heap: Global, fault: LineFault) -> Result<Vec<u8>, AllocError>
     ensures { IfOk result (λ v. v.items ≡ error_line fault) }
 {
     let mut out = Vec::new(heap);
-    push_error(&mut out, fault)?;
+    push_error(&mut out, &fault)?;
     Ok(out)
 }
 
@@ -59,10 +62,10 @@ fn print_text<S: Shelf>(heap: Global, shelf: &mut S, line: &[u8]) -> Result<Vec<
     ensures { IfOk result (λ v. Shown line.now (S.seen shelf.old) v.items (S.seen shelf.new)) }
 {
     let mut out = Vec::new(heap);
-    match push_blobs(heap, &mut out, shelf) {
+    match push_blobs(&mut out, shelf) {
         Ok(()) => Ok(out),
         Err(PrintFault::Shelf(fault)) => outcome_text(heap, line, Err(fault)),
-        Err(PrintFault::Memory) => Err(AllocError),
+        Err(PrintFault::Memory(fault)) => Err(fault),
     }
 }
 

@@ -10,7 +10,7 @@ mod print;
 pub use answer::{answer_order, error_text};
 pub use opening::{Opening, Stack, is_opening, read_opening};
 pub use order::{LineFault, Order, Verb, is_order, read_order};
-pub use outcome::{push_error, push_outcome};
+pub use outcome::push_outcome;
 pub use print::{PrintFault, push_blobs};
 
 #[cfg(test)]

@@ -3,9 +3,9 @@
 ghost use Rattle.std.specs.Prelude.{◌≡◌};
 ghost use Rattle.shelf_script.specs.Openings.{is_opening, stack_of, stack_in, setting_of, setting_in, opening_in, opening_of};
 
-use crate::order::{LineFault, read_end};
+use crate::order::LineFault;
 use text::decimal::read_decimal;
-use text::word::{is_end, is_word, next_word};
+use text::word::{Split, first_word, next_word, no_word};
 
 /// A stack of shelves, the upper ones first.
 #[derive(Clone, Copy)]
@@ -37,25 +37,20 @@ pub struct Opening {
 pub fn is_opening(line: &[u8]) -> bool
     ensures { result ≡ is_opening line.now }
 {
-    is_word(next_word(line).word, b"shelf")
+    matches!(next_word(line).word, b"shelf")
 }
 
 // The stack that a word names.
 fn stack_of(word: &[u8]) -> Option<Stack>
     ensures { result ≡ stack_of word.now }
 {
-    if is_word(word, b"memory") {
-        Some(Stack::Memory)
-    } else if is_word(word, b"buffer/memory") {
-        Some(Stack::BufferMemory)
-    } else if is_word(word, b"cutter/memory") {
-        Some(Stack::CutterMemory)
-    } else if is_word(word, b"buffer/cutter/memory") {
-        Some(Stack::BufferCutterMemory)
-    } else if is_word(word, b"cutter/buffer/memory") {
-        Some(Stack::CutterBufferMemory)
-    } else {
-        None
+    match word {
+        b"memory" => Some(Stack::Memory),
+        b"buffer/memory" => Some(Stack::BufferMemory),
+        b"cutter/memory" => Some(Stack::CutterMemory),
+        b"buffer/cutter/memory" => Some(Stack::BufferCutterMemory),
+        b"cutter/buffer/memory" => Some(Stack::CutterBufferMemory),
+        _ => None,
     }
 }
 
@@ -63,14 +58,8 @@ fn stack_of(word: &[u8]) -> Option<Stack>
 fn read_stack(text: &[u8]) -> Result<Stack, LineFault>
     ensures { result ≡ stack_in text.now }
 {
-    let word = next_word(text).word;
-    if is_end(word) {
-        return Err(LineFault::MissingWord);
-    }
-    match stack_of(word) {
-        Some(stack) => Ok(stack),
-        None => Err(LineFault::UnknownStack),
-    }
+    let Split { word, .. } = first_word(text)?;
+    stack_of(word).ok_or(LineFault::UnknownStack)
 }
 
 // The number behind a name in a word.
@@ -80,20 +69,14 @@ fn setting_of(name: &[u8], word: &[u8]) -> Result<u64, LineFault>
     let Some(number) = word.strip_prefix(name) else {
         return Err(LineFault::BadSetting);
     };
-    match read_decimal(number) {
-        Some(number) => Ok(number),
-        None => Err(LineFault::BadSetting),
-    }
+    read_decimal(number).ok_or(LineFault::BadSetting)
 }
 
 // The number behind a name in the first word.
 fn read_setting(name: &[u8], text: &[u8]) -> Result<u64, LineFault>
     ensures { result ≡ setting_in name.now text.now }
 {
-    let word = next_word(text).word;
-    if is_end(word) {
-        return Err(LineFault::MissingWord);
-    }
+    let Split { word, .. } = first_word(text)?;
     setting_of(name, word)
 }
 
@@ -106,7 +89,7 @@ fn read_settings(text: &[u8]) -> Result<Opening, LineFault>
     let max = read_setting(b"max=", rest)?;
     let rest = next_word(rest).rest;
     let size = read_setting(b"size=", rest)?;
-    read_end(next_word(rest).rest)?;
+    no_word(next_word(rest).rest)?;
     Ok(Opening { stack, max, size })
 }
 

@@ -2,12 +2,13 @@
 //!
 //! Words are separated by spaces and tabs, and a word that begins with `#` begins a comment. Numbers are decimal.
 
-ghost use Rattle.std.specs.Prelude.{◌≡◌, is_some};
+ghost use Rattle.std.specs.Prelude.{◌≡◌, is_some, Some};
 ghost use Rattle.text.specs.Words.{word_of};
-ghost use Rattle.shelf_script.specs.Orders.{number_in, end_in, one_in, last_in, shown, one_or_none, verb_of, order_by, order_of, spelled};
+ghost use Rattle.shelf_script.specs.Orders.{word_fault, number_in, one_in, one_or_none, verb_of, order_by, order_of, spelled, fault_text};
 
+use std::fmt;
 use text::decimal::read_decimal;
-use text::word::{Split, is_end, is_word, next_word};
+use text::word::{Split, WordFault, first_word, is_end, last_word, next_word, no_word};
 
 /// What the first word of an order asks for.
 #[derive(Clone, Copy)]
@@ -96,29 +97,40 @@ pub enum LineFault {
     BadHex,
 }
 
-// The number that the first word writes.
-pub(crate) fn read_number(text: &[u8]) -> Result<u64, LineFault>
-    ensures { result ≡ number_in text.now }
-{
-    let word = next_word(text).word;
-    if is_end(word) {
-        return Err(LineFault::MissingWord);
-    }
-    match read_decimal(word) {
-        Some(number) => Ok(number),
-        None => Err(LineFault::BadNumber),
+impl fmt::Display for LineFault {
+    ghost output = { λ e. Some (fault_text e) };
+
+    fn fmt<W: fmt::Write>(&self, f: &mut fmt::Formatter<W>) -> fmt::Result {
+        f.write_str(match self {
+            LineFault::UnknownCommand => "unknown command",
+            LineFault::NoShelf => "no shelf is open",
+            LineFault::UnknownStack => "unknown stack of shelves",
+            LineFault::MissingWord => "a word is missing",
+            LineFault::ExtraWord => "a word too many",
+            LineFault::BadNumber => "not a decimal number below 2^64",
+            LineFault::BadSetting => "not max=NUMBER size=NUMBER",
+            LineFault::BadHex => "not pairs of hexadecimal digits",
+        })
     }
 }
 
-// That no word follows.
-pub(crate) fn read_end(text: &[u8]) -> Result<(), LineFault>
-    ensures { result ≡ end_in text.now }
-{
-    if is_end(next_word(text).word) {
-        Ok(())
-    } else {
-        Err(LineFault::ExtraWord)
+impl From<WordFault> for LineFault {
+    ghost from_gives = { λ e r. r ≡ word_fault e };
+
+    fn from(fault: WordFault) -> LineFault {
+        match fault {
+            WordFault::Missing => LineFault::MissingWord,
+            WordFault::Extra => LineFault::ExtraWord,
+        }
     }
+}
+
+// The number that the first word writes.
+fn read_number(text: &[u8]) -> Result<u64, LineFault>
+    ensures { result ≡ number_in text.now }
+{
+    let Split { word, .. } = first_word(text)?;
+    read_decimal(word).ok_or(LineFault::BadNumber)
 }
 
 // One number, and no more.
@@ -126,7 +138,7 @@ fn read_one(text: &[u8]) -> Result<u64, LineFault>
     ensures { result ≡ one_in text.now }
 {
     let number = read_number(text)?;
-    read_end(next_word(text).rest)?;
+    no_word(next_word(text).rest)?;
     Ok(number)
 }
 
@@ -140,44 +152,24 @@ fn read_one_or_none(text: &[u8]) -> Result<u64, LineFault>
     read_one(text)
 }
 
-// The last word of a line.
-fn read_last(text: &[u8]) -> Result<&[u8], LineFault>
-    ensures { shown result ≡ last_in text.now }
-{
-    let Split { word, rest } = next_word(text);
-    if is_end(word) {
-        return Err(LineFault::MissingWord);
-    }
-    read_end(rest)?;
-    Ok(word)
-}
-
 // What a word asks for.
 fn read_verb(word: &[u8]) -> Option<Verb>
     ensures { result ≡ verb_of word.now }
 {
-    if is_word(word, b"make") {
-        Some(Verb::Make)
-    } else if is_word(word, b"add") {
-        Some(Verb::Add)
-    } else if is_word(word, b"cut") {
-        Some(Verb::Cut)
-    } else if is_word(word, b"remove") {
-        Some(Verb::Remove)
-    } else if is_word(word, b"sync") {
-        Some(Verb::Sync)
-    } else if is_word(word, b"fail") {
-        Some(Verb::Fail)
-    } else if is_word(word, b"restart") {
-        Some(Verb::Restart)
-    } else if is_word(word, b"print") {
-        Some(Verb::Print)
-    } else {
-        None
+    match word {
+        b"make" => Some(Verb::Make),
+        b"add" => Some(Verb::Add),
+        b"cut" => Some(Verb::Cut),
+        b"remove" => Some(Verb::Remove),
+        b"sync" => Some(Verb::Sync),
+        b"fail" => Some(Verb::Fail),
+        b"restart" => Some(Verb::Restart),
+        b"print" => Some(Verb::Print),
+        _ => None,
     }
 }
 
-// An order, from the second word of its line on.
+// An order, from the second word of its line on. A verb stays a value, since whether a line is an order is asked by it alone.
 fn read_rest(verb: Verb, text: &[u8]) -> Result<Order<'_>, LineFault>
     ensures { spelled result ≡ order_by verb text.now }
 {
@@ -187,7 +179,7 @@ fn read_rest(verb: Verb, text: &[u8]) -> Result<Order<'_>, LineFault>
         }),
         Verb::Add => {
             let blob = read_number(text)?;
-            let hex = read_last(next_word(text).rest)?;
+            let hex = last_word(next_word(text).rest)?;
             Ok(Order::Add { blob, hex })
         }
         Verb::Cut => {
@@ -207,25 +199,24 @@ fn read_rest(verb: Verb, text: &[u8]) -> Result<Order<'_>, LineFault>
             Ok(Order::Fail { write, part })
         }
         Verb::Restart => {
-            read_end(text)?;
+            no_word(text)?;
             Ok(Order::Restart)
         }
         Verb::Print => {
-            read_end(text)?;
+            no_word(text)?;
             Ok(Order::Print)
         }
     }
 }
 
 /// The order that a line is, or why it is none.
+#[tactic(auto, unfolding(crate::specs::Orders::order_of))]
 pub fn read_order(line: &[u8]) -> Result<Order<'_>, LineFault>
     ensures { spelled result ≡ order_of line.now }
 {
     let Split { word, rest } = next_word(line);
-    match read_verb(word) {
-        Some(verb) => read_rest(verb, rest),
-        None => Err(LineFault::UnknownCommand),
-    }
+    let verb = read_verb(word).ok_or(LineFault::UnknownCommand)?;
+    read_rest(verb, rest)
 }
 
 /// Whether a line is an order to a shelf, by its first word.

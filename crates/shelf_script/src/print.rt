@@ -8,8 +8,8 @@ ghost use Rattle.shelf_script.specs.Prints.{BytesRead, BlobPrinted, Printed};
 use faults::ShelfFault;
 use shelf::Shelf;
 use std::alloc::{AllocError, Global};
-use text::decimal::push_labelled;
 use text::hex::push_bytes;
+use text::shown::push_shown;
 
 /// Why the blobs of a shelf are not shown.
 #[derive(Clone, Copy)]
@@ -17,7 +17,7 @@ pub enum PrintFault {
     /// The shelf could not tell.
     Shelf(ShelfFault),
     /// There is no memory for the text.
-    Memory,
+    Memory(AllocError),
 }
 
 impl From<ShelfFault> for PrintFault {
@@ -29,10 +29,10 @@ impl From<ShelfFault> for PrintFault {
 }
 
 impl From<AllocError> for PrintFault {
-    ghost from_gives = { λ _ r. r ≡ Memory };
+    ghost from_gives = { λ e r. r ≡ Memory e };
 
-    fn from(_fault: AllocError) -> PrintFault {
-        PrintFault::Memory
+    fn from(fault: AllocError) -> PrintFault {
+        PrintFault::Memory(fault)
     }
 }
 
@@ -40,12 +40,9 @@ impl From<AllocError> for PrintFault {
 fn push_blob_line(out: &mut Vec<u8>, blob: u64, safe: u64, bytes: &[u8]) -> Result<(), AllocError>
     ensures { OnOk result (out.new.items ≡ out.old.items ++ blob_text blob safe bytes.now) }
 {
-    push_labelled(out, "blob ", blob)?;
-    push_labelled(out, " safe ", safe)?;
-    out.extend_from_slice(b" bytes ")?;
+    push_shown(out, &format_args!("blob {blob} safe {safe} bytes "))?;
     push_bytes(out, bytes)?;
-    out.extend_from_slice(b"\n")?;
-    Ok(())
+    out.extend_from_slice(b"\n")
 }
 
 // The bytes of a blob.
@@ -59,32 +56,24 @@ fn read_all<S: Shelf>(heap: Global, shelf: &mut S, blob: u64) -> Result<Vec<u8>,
 }
 
 // Appends the line of a blob.
-fn push_blob<S: Shelf>(
-    heap: Global,
-    out: &mut Vec<u8>,
-    shelf: &mut S,
-    blob: u64,
-) -> Result<(), PrintFault>
+fn push_blob<S: Shelf>(out: &mut Vec<u8>, shelf: &mut S, blob: u64) -> Result<(), PrintFault>
     ensures { BlobPrinted blob (S.seen shelf.old) out.old.items result (S.seen shelf.new) out.new.items }
 {
     let safe = shelf.safe_count(blob)?;
-    let bytes = read_all(heap, shelf, blob)?;
+    let bytes = read_all(*out.allocator(), shelf, blob)?;
     push_blob_line(out, blob, safe, bytes.as_slice())?;
     Ok(())
 }
 
 /// Appends a line for each blob of a shelf, in rising number. On a shelf that is down nothing is appended, and it says so.
-pub fn push_blobs<S: Shelf>(
-    heap: Global,
-    out: &mut Vec<u8>,
-    shelf: &mut S,
-) -> Result<(), PrintFault>
+pub fn push_blobs<S: Shelf>(out: &mut Vec<u8>, shelf: &mut S) -> Result<(), PrintFault>
     ensures { Printed (S.seen shelf.old) out.old.items result (S.seen shelf.new) out.new.items }
 {
     let count = shelf.count()?;
+    // A shelf is asked by place: a question may fail and needs it whole, so nothing iterates over one.
     for i in 0..count {
         let blob = shelf.number_at(i)?;
-        push_blob(heap, out, shelf, blob)?;
+        push_blob(out, shelf, blob)?;
     }
     Ok(())
 }

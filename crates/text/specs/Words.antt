@@ -1,7 +1,9 @@
 -- The words of a line. Assumes nothing.
--- Words: is_blank, without_blanks, up_to_blank, from_blank, word_of, after_word, AllBlank, NoBlank, EndsWord, SplitsWord, is_end, first_in, end_in, last_in, first_shown, shown.
+-- Words: is_blank, without_blanks, up_to_blank, from_blank, word_of, after_word, AllBlank, NoBlank, EndsWord, SplitsWord, is_end,
+-- first_in, end_in, last_in, first_shown, shown, and_then, told_as.
 use Rattle.std.specs.Prelude.{◌≡◌, ℕ, Bool, true, false, cond, ◌||◌, List, [], ◌∷◌, ◌++◌, ◌==◌, Ok, Err, Result}
 use Rattle.std.specs.Borrow.{Bor}
+use Rattle.std.specs.Result.{result_map_both}
 use Rattle.text.specs.declared.word.Split.{Split}
 use Rattle.text.specs.declared.word.WordFault.{WordFault}
 use Rattle.text.specs.declared.word.WordFault.TheVariants.{Missing, Extra}
@@ -83,3 +85,12 @@ first_shown (Err e) = Err e
 abbrev pub shown : {E : Type 0} → Result (Bor (List ℕ)) E → Result (List ℕ) E
 shown (Ok word) = Ok word.now
 shown (Err e) = Err e
+
+-- what is read next, where a reading gave something
+abbrev pub and_then : {A B E : Type 0} → Result A E → (A → Result B E) → Result B E
+and_then (Ok x) f = f x
+and_then (Err e) f = Err e
+
+-- a reading whose fault has another name where it is told
+abbrev pub told_as : {A E F : Type 0} → (E → F) → Result A E → Result A F
+told_as name r = result_map_both (λ x. x) name r
