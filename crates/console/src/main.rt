@@ -10,12 +10,7 @@ use std::{env, io};
 
 // Whether the lines of the script are to be shown too.
 fn wants_echo(rt: &HostRuntime) -> io::Result<bool> {
-    for word in env::args(rt)? {
-        if word.as_str() == "--echo" {
-            return Ok(true);
-        }
-    }
-    Ok(false)
+    Ok(env::args(rt)?.any(|word| word.as_str() == "--echo"))
 }
 
 fn main(rt: HostRuntime) -> io::Result<()> {
@@ -23,6 +18,7 @@ fn main(rt: HostRuntime) -> io::Result<()> {
     let echo = wants_echo(&rt)?;
     for line in BufReader::new(heap, rt.stdin())?.split(heap, b'\n') {
         let line = line?;
+        // Two calls in two arms say it plainly; a function kept in a variable would not.
         let answer = if echo {
             transcript_line(heap, line.as_slice())?
         } else {
