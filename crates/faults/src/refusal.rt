@@ -73,3 +73,22 @@ impl fmt::Display for Refusal {
         write!(f, "{}", self.detail)
     }
 }
+
+#[cfg(test)]
+mod tests {
+    use super::*;
+    use crate::shelf::ShelfCause;
+    use std::test::Fail;
+
+    #[test]
+    fn a_refusal_and_a_cause_as_they_are_printed(rt: HostRuntime) -> Result<(), Fail> {
+        let refusal = Refusal {
+            layer: Layer::Recovery,
+            number: Some(10),
+            detail: Detail::KindOfBlob { kind: 3, blob: 7 },
+        };
+        let text = format!(in rt.alloc(); "{refusal}, {}", ShelfCause::TooLong)?;
+        assert_eq!(rt; text.as_str(), "refused 10 kind 3 blob 7, too-long");
+        Ok(())
+    }
+}
