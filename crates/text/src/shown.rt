@@ -1,4 +1,5 @@
 //! The text of what can be displayed.
+// Each writer says in an equation what it appends to a `Vec<u8>`: a type around the vector would only save the word `.items`.
 
 ghost use Rattle.std.specs.Prelude.{◌≡◌, ◌++◌, IfSome, OnOk};
 ghost use Rattle.text.specs.Grown.{Grown};

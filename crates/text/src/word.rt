@@ -112,6 +112,7 @@ pub fn last_word(text: &[u8]) -> Result<&[u8], WordFault>
 }
 
 /// Whether two words are the same.
+// It is `==`, under a name for words that are values; a word that stands in the code is matched.
 pub fn is_word(word: &[u8], other: &[u8]) -> bool
     ensures { result ≡ bytes_eq word.now other.now }
 {
