@@ -9,7 +9,7 @@ use Rattle.std.specs.Prelude.{ℕ, cond, List, length, Some, None, Ok, Err, code
 use Rattle.std.specs.Str.{bytes_eq}
 use Rattle.text.specs.declared.word.WordFault.{WordFault}
 use Rattle.text.specs.declared.word.WordFault.TheVariants.{Missing, Extra}
-use Rattle.text.specs.Words.{is_end, word_of, after_word, first_in, last_in, and_then, told_as}
+use Rattle.text.specs.Words.{is_end, word_of, after_word, last_in, and_then, told_as}
 use Rattle.script.specs.declared.command.KindName.{KindName}
 use Rattle.script.specs.declared.command.KindName.TheVariants.{Line, Event}
 use Rattle.script.specs.declared.command.Command.{Command}
@@ -48,28 +48,28 @@ abbrev pub word_fault : WordFault → ScriptFault
 word_fault Missing = MissingWord
 word_fault Extra = ExtraWord
 
--- the item kind that a word names
+-- the item kind that a word names, which must be there
 abbrev pub kind_of : List ℕ → Result KindName ScriptFault
-kind_of w = cond (bytes_eq w (codes "line")) (Ok Line) (cond (bytes_eq w (codes "event")) (Ok Event) (Err UnknownKind))
-
--- the item kind that the first word names, which must be there
-abbrev pub kind_in : List ℕ → Result KindName ScriptFault
-kind_in text = and_then (told_as word_fault (first_in text)) kind_of
+kind_of w =
+    cond (is_end w) (Err MissingWord)
+    (cond (bytes_eq w (codes "line")) (Ok Line)
+    (cond (bytes_eq w (codes "event")) (Ok Event)
+    (Err UnknownKind)))
 
 -- `scan KIND HEX`, from its second word on; HEX is the last word
 abbrev pub scan_command : List ℕ → Result Asked ScriptFault
-scan_command text = and_then (kind_in text) (λ kind. and_then (told_as word_fault (last_in (after_word text))) (λ hex. Ok (scan kind hex)))
+scan_command text = and_then (kind_of (word_of text)) (λ kind. and_then (told_as word_fault (last_in (after_word text))) (λ hex. Ok (scan kind hex)))
 
 -- the most bytes of a line
 abbrev pub max_line : ℕ
 max_line = 65536
 
--- the command that a line is, or none where its words end before the first
+-- a command that is there
 abbrev pub some_of : Result Asked ScriptFault → Result (Option Asked) ScriptFault
 some_of (Ok c) = Ok (Some c)
 some_of (Err e) = Err e
 
--- the command that a line is
+-- the command that a line is, or none where its words end before the first
 abbrev pub command_of : List ℕ → Result (Option Asked) ScriptFault
 command_of line =
     cond (nat_lt max_line (length line)) (Err Overlong)

@@ -4,7 +4,8 @@
 //! comment, and a line with no word before it is no command and no error.
 
 ghost use Rattle.std.specs.Prelude.{◌≡◌, Some};
-ghost use Rattle.script.specs.Commands.{word_fault, kind_in, spelled, scanned, fault_text, scan_command, command_of};
+ghost use Rattle.text.specs.Words.{word_of};
+ghost use Rattle.script.specs.Commands.{word_fault, kind_of, spelled, scanned, fault_text, scan_command, command_of};
 
 use std::fmt;
 use text::word::{Split, WordFault, first_word, is_end, last_word, next_word};
@@ -78,7 +79,7 @@ impl From<WordFault> for ScriptFault {
 
 // The item kind that the first word names.
 fn read_kind(text: &[u8]) -> Result<KindName, ScriptFault>
-    ensures { result ≡ kind_in text.now }
+    ensures { result ≡ kind_of (word_of text.now) }
 {
     match first_word(text)?.word {
         b"line" => Ok(KindName::Line),
