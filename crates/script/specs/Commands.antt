@@ -5,17 +5,16 @@
 --   fault_text   why a line is no command, in words
 --
 -- Assumes nothing.
-use Rattle.std.specs.Prelude.{ℕ, cond, List, length, Some, None, Ok, Err, codes, Option, Result, nat_lt}
+use Rattle.std.specs.Prelude.{ℕ, cond, List, ◌++◌, length, Some, None, Ok, Err, codes, decimal, Option, Result, nat_lt}
 use Rattle.std.specs.Str.{bytes_eq}
-use Rattle.text.specs.declared.word.WordFault.{WordFault}
-use Rattle.text.specs.declared.word.WordFault.TheVariants.{Missing, Extra}
-use Rattle.text.specs.Words.{is_end, word_of, after_word, last_in, and_then, told_as}
+use Rattle.text.specs.declared.word.WordFault.TheVariants.{Missing}
+use Rattle.text.specs.Words.{is_end, word_of, after_word, last_in, word_fault_text, and_then, told_as}
 use Rattle.script.specs.declared.command.KindName.{KindName}
 use Rattle.script.specs.declared.command.KindName.TheVariants.{Line, Event}
 use Rattle.script.specs.declared.command.Command.{Command}
 use Rattle.script.specs.declared.command.Command.TheVariants.{Scan}
 use Rattle.script.specs.declared.command.ScriptFault.{ScriptFault}
-use Rattle.script.specs.declared.command.ScriptFault.TheVariants.{Overlong, UnknownCommand, UnknownKind, MissingWord, ExtraWord, BadHex}
+use Rattle.script.specs.declared.command.ScriptFault.TheVariants.{Overlong, UnknownCommand, UnknownKind, Word, BadHex}
 
 -- a command by what it says
 pub data Asked : Type 0 where
@@ -34,35 +33,29 @@ spelled (Ok None) = Ok None
 spelled (Ok (Some c)) = Ok (Some (asked c))
 spelled (Err e) = Err e
 
--- why a line is no command, in words
-abbrev pub fault_text : ScriptFault → List ℕ
-fault_text Overlong = codes "the line is longer than 65536 bytes"
-fault_text UnknownCommand = codes "unknown command"
-fault_text UnknownKind = codes "unknown item kind, not line or event"
-fault_text MissingWord = codes "a word is missing"
-fault_text ExtraWord = codes "a word too many"
-fault_text BadHex = codes "not pairs of hexadecimal digits"
-
--- why the words of a line are not those that belong there
-abbrev pub word_fault : WordFault → ScriptFault
-word_fault Missing = MissingWord
-word_fault Extra = ExtraWord
-
--- the item kind that a word names, which must be there
-abbrev pub kind_of : List ℕ → Result KindName ScriptFault
-kind_of w =
-    cond (is_end w) (Err MissingWord)
-    (cond (bytes_eq w (codes "line")) (Ok Line)
-    (cond (bytes_eq w (codes "event")) (Ok Event)
-    (Err UnknownKind)))
-
--- `scan KIND HEX`, from its second word on; HEX is the last word
-abbrev pub scan_command : List ℕ → Result Asked ScriptFault
-scan_command text = and_then (kind_of (word_of text)) (λ kind. and_then (told_as word_fault (last_in (after_word text))) (λ hex. Ok (scan kind hex)))
-
 -- the most bytes of a line
 abbrev pub max_line : ℕ
 max_line = 65536
+
+-- why a line is no command, in words
+abbrev pub fault_text : ScriptFault → List ℕ
+fault_text Overlong = codes "the line is longer than " ++ (decimal max_line ++ codes " bytes")
+fault_text UnknownCommand = codes "unknown command"
+fault_text UnknownKind = codes "unknown item kind, not line or event"
+fault_text (Word e) = word_fault_text e
+fault_text BadHex = codes "not pairs of hexadecimal digits"
+
+-- the item kind that a word names
+abbrev pub kind_named : List ℕ → Result KindName ScriptFault
+kind_named w = cond (bytes_eq w (codes "line")) (Ok Line) (cond (bytes_eq w (codes "event")) (Ok Event) (Err UnknownKind))
+
+-- the item kind that a word names, which must be there
+abbrev pub kind_of : List ℕ → Result KindName ScriptFault
+kind_of w = cond (is_end w) (Err (Word Missing)) (kind_named w)
+
+-- `scan KIND HEX`, from its second word on; HEX is the last word
+abbrev pub scan_command : List ℕ → Result Asked ScriptFault
+scan_command text = and_then (kind_of (word_of text)) (λ kind. and_then (told_as Word (last_in (after_word text))) (λ hex. Ok (scan kind hex)))
 
 -- a command that is there
 abbrev pub some_of : Result Asked ScriptFault → Result (Option Asked) ScriptFault

@@ -4,8 +4,8 @@
 //! comment, and a line with no word before it is no command and no error.
 
 ghost use Rattle.std.specs.Prelude.{◌≡◌, Some};
-ghost use Rattle.text.specs.Words.{word_of};
-ghost use Rattle.script.specs.Commands.{word_fault, kind_of, spelled, scanned, fault_text, scan_command, command_of};
+ghost use Rattle.script.specs.declared.command.ScriptFault.TheVariants.{Word};
+ghost use Rattle.script.specs.Commands.{kind_named, spelled, scanned, fault_text, scan_command, command_of};
 
 use std::fmt;
 use text::word::{Split, WordFault, first_word, is_end, last_word, next_word};
@@ -43,10 +43,8 @@ pub enum ScriptFault {
     UnknownCommand,
     /// Its second word names no item kind.
     UnknownKind,
-    /// A word is missing behind the others.
-    MissingWord,
-    /// A word is left over behind the others.
-    ExtraWord,
+    /// Its words are not those that belong there.
+    Word(WordFault),
     /// Its bytes are not spelled by pairs of hexadecimal digits.
     BadHex,
 }
@@ -55,36 +53,36 @@ impl fmt::Display for ScriptFault {
     ghost output = { λ e. Some (fault_text e) };
 
     fn fmt<W: fmt::Write>(&self, f: &mut fmt::Formatter<W>) -> fmt::Result {
-        f.write_str(match self {
-            ScriptFault::Overlong => "the line is longer than 65536 bytes",
-            ScriptFault::UnknownCommand => "unknown command",
-            ScriptFault::UnknownKind => "unknown item kind, not line or event",
-            ScriptFault::MissingWord => "a word is missing",
-            ScriptFault::ExtraWord => "a word too many",
-            ScriptFault::BadHex => "not pairs of hexadecimal digits",
-        })
-    }
-}
-
-impl From<WordFault> for ScriptFault {
-    ghost from_gives = { λ e r. r ≡ word_fault e };
-
-    fn from(fault: WordFault) -> ScriptFault {
-        match fault {
-            WordFault::Missing => ScriptFault::MissingWord,
-            WordFault::Extra => ScriptFault::ExtraWord,
+        match self {
+            ScriptFault::Overlong => write!(f, "the line is longer than {MAX_LINE} bytes"),
+            ScriptFault::UnknownCommand => f.write_str("unknown command"),
+            ScriptFault::UnknownKind => f.write_str("unknown item kind, not line or event"),
+            ScriptFault::Word(fault) => write!(f, "{fault}"),
+            ScriptFault::BadHex => f.write_str("not pairs of hexadecimal digits"),
         }
     }
 }
 
-// The item kind that the first word names.
-fn read_kind(text: &[u8]) -> Result<KindName, ScriptFault>
-    ensures { result ≡ kind_of (word_of text.now) }
-{
-    match first_word(text)?.word {
-        b"line" => Ok(KindName::Line),
-        b"event" => Ok(KindName::Event),
-        _ => Err(ScriptFault::UnknownKind),
+impl From<WordFault> for ScriptFault {
+    ghost from_gives = { λ e r. r ≡ Word e };
+
+    fn from(lower: WordFault) -> ScriptFault {
+        ScriptFault::Word(lower)
+    }
+}
+
+/// The item kind that a word names.
+impl TryFrom<&[u8]> for KindName {
+    type Error = ScriptFault;
+
+    ghost try_from_gives = { λ word r. r ≡ kind_named word.now };
+
+    fn try_from(word: &[u8]) -> Result<KindName, ScriptFault> {
+        match word {
+            b"line" => Ok(KindName::Line),
+            b"event" => Ok(KindName::Event),
+            _ => Err(ScriptFault::UnknownKind),
+        }
     }
 }
 
@@ -92,8 +90,9 @@ fn read_kind(text: &[u8]) -> Result<KindName, ScriptFault>
 fn read_scan(text: &[u8]) -> Result<Command<'_>, ScriptFault>
     ensures { scanned result ≡ scan_command text.now }
 {
-    let kind = read_kind(text)?;
-    let hex = last_word(next_word(text).rest)?;
+    let Split { word, rest } = first_word(text)?;
+    let kind = KindName::try_from(word)?;
+    let hex = last_word(rest)?;
     Ok(Command::Scan { kind, hex })
 }
 

@@ -1,3 +1,4 @@
-pub mod Listing
 mod Printing
 mod Settings
+pub mod Listing
+pub mod Steps

@@ -13,8 +13,8 @@ use Rattle.shelf_script.specs.declared.opening.Stack.{Stack}
 use Rattle.shelf_script.specs.declared.opening.Stack.TheVariants.{Memory, BufferMemory, CutterMemory, BufferCutterMemory, CutterBufferMemory}
 use Rattle.shelf_script.specs.declared.opening.Opening.{Opening}
 use Rattle.shelf_script.specs.declared.order.LineFault.{LineFault}
-use Rattle.shelf_script.specs.declared.order.LineFault.TheVariants.{UnknownStack, BadSetting}
-use Rattle.shelf_script.specs.Orders.{word_fault, end_in}
+use Rattle.shelf_script.specs.declared.order.LineFault.TheVariants.{UnknownStack, Word, BadSetting}
+use Rattle.shelf_script.specs.Orders.{end_in}
 
 -- a line whose first word is `shelf`
 abbrev pub is_opening : List ℕ → Bool
@@ -32,14 +32,14 @@ stack_of w =
 
 -- the stack that the first word names
 abbrev pub stack_in : List ℕ → Result Stack LineFault
-stack_in text = and_then (told_as word_fault (first_in text)) (λ w. ok_or (stack_of w) UnknownStack)
+stack_in text = and_then (told_as Word (first_in text)) (λ w. ok_or (stack_of w) UnknownStack)
 
 -- the number behind a name in a word
 abbrev pub setting_of : List ℕ → List ℕ → Result ℕ LineFault
 setting_of name w = cond (bytes_eq (take (length name) w) name) (ok_or (number_of (drop (length name) w)) BadSetting) (Err BadSetting)
 
 abbrev pub setting_in : List ℕ → List ℕ → Result ℕ LineFault
-setting_in name text = and_then (told_as word_fault (first_in text)) (setting_of name)
+setting_in name text = and_then (told_as Word (first_in text)) (setting_of name)
 
 -- `STACK max=N size=N`
 abbrev pub opening_in : List ℕ → Result Opening LineFault

@@ -7,19 +7,18 @@
 --
 -- Assumes nothing.
 use Rattle.std.specs.Prelude.{ℕ, cond, List, Some, None, Ok, Err, codes, Option, Result}
+use Rattle.std.specs.Borrow.{Bor}
 use Rattle.std.specs.Option.{ok_or}
 use Rattle.std.specs.Str.{bytes_eq}
 use Rattle.text.specs.Decimal.{number_of}
-use Rattle.text.specs.declared.word.WordFault.{WordFault}
-use Rattle.text.specs.declared.word.WordFault.TheVariants.{Missing, Extra}
-use Rattle.text.specs.Words.{word_of, after_word, is_end, first_in, and_then, told_as}
+use Rattle.text.specs.Words.{word_of, after_word, is_end, word_fault_text, first_in, and_then, told_as}
 use Rattle.text.specs.Words as words
 use Rattle.shelf_script.specs.declared.order.Verb.{Verb}
 use Rattle.shelf_script.specs.declared.order.Verb.TheVariants as verb
 use Rattle.shelf_script.specs.declared.order.Order.{Order}
 use Rattle.shelf_script.specs.declared.order.Order.TheVariants as order
 use Rattle.shelf_script.specs.declared.order.LineFault.{LineFault}
-use Rattle.shelf_script.specs.declared.order.LineFault.TheVariants.{UnknownCommand, NoShelf, UnknownStack, MissingWord, ExtraWord, BadNumber, BadSetting, BadHex}
+use Rattle.shelf_script.specs.declared.order.LineFault.TheVariants.{UnknownCommand, NoShelf, UnknownStack, Word, BadNumber, BadSetting, BadHex}
 
 -- an order by what it says
 pub data Asked : Type 0 where
@@ -37,8 +36,7 @@ abbrev pub fault_text : LineFault → List ℕ
 fault_text UnknownCommand = codes "unknown command"
 fault_text NoShelf = codes "no shelf is open"
 fault_text UnknownStack = codes "unknown stack of shelves"
-fault_text MissingWord = codes "a word is missing"
-fault_text ExtraWord = codes "a word too many"
+fault_text (Word e) = word_fault_text e
 fault_text BadNumber = codes "not a decimal number below 2^64"
 fault_text BadSetting = codes "not max=NUMBER size=NUMBER"
 fault_text BadHex = codes "not pairs of hexadecimal digits"
@@ -58,22 +56,26 @@ abbrev pub spelled : Result Order LineFault → Result Asked LineFault
 spelled (Ok o) = Ok (asked o)
 spelled (Err e) = Err e
 
--- why the words of a line are not those that belong there
-abbrev pub word_fault : WordFault → LineFault
-word_fault Missing = MissingWord
-word_fault Extra = ExtraWord
-
 -- the number that the first word of a text writes
 abbrev pub number_in : List ℕ → Result ℕ LineFault
-number_in text = and_then (told_as word_fault (first_in text)) (λ w. ok_or (number_of w) BadNumber)
+number_in text = and_then (told_as Word (first_in text)) (λ w. ok_or (number_of w) BadNumber)
+
+-- what was read of the first word, and what follows that word
+abbrev pub with_rest : {A : Type 0} → List ℕ → Result A LineFault → Result (A × List ℕ) LineFault
+with_rest text r = and_then r (λ x. Ok (x, after_word text))
+
+-- the same with what follows borrowed
+abbrev pub behind : {A : Type 0} → Result (A × Bor (List ℕ)) LineFault → Result (A × List ℕ) LineFault
+behind (Ok x) = Ok (x.0, x.1.now)
+behind (Err e) = Err e
 
 -- no word follows
 abbrev pub end_in : List ℕ → Result (Unit {0}) LineFault
-end_in text = told_as word_fault (words.end_in text)
+end_in text = told_as Word (words.end_in text)
 
 -- the last word of a line
 abbrev pub last_in : List ℕ → Result (List ℕ) LineFault
-last_in text = told_as word_fault (words.last_in text)
+last_in text = told_as Word (words.last_in text)
 
 -- one number, and no more
 abbrev pub one_in : List ℕ → Result ℕ LineFault

@@ -1,6 +1,9 @@
 //! A line of a script that says which shelf is to be used from there on: `shelf STACK max=N size=N`.
 
 ghost use Rattle.std.specs.Prelude.{◌≡◌};
+ghost use Rattle.std.specs.Option.{ok_or};
+ghost use Rattle.shelf_script.specs.declared.order.LineFault.TheVariants.{UnknownStack};
+ghost use Rattle.shelf_script.specs.Orders.{behind, with_rest};
 ghost use Rattle.shelf_script.specs.Openings.{is_opening, stack_of, stack_in, setting_of, setting_in, opening_in, opening_of};
 
 use crate::order::LineFault;
@@ -40,26 +43,30 @@ pub fn is_opening(line: &[u8]) -> bool
     matches!(next_word(line).word, b"shelf")
 }
 
-// The stack that a word names.
-fn stack_of(word: &[u8]) -> Option<Stack>
-    ensures { result ≡ stack_of word.now }
-{
-    match word {
-        b"memory" => Some(Stack::Memory),
-        b"buffer/memory" => Some(Stack::BufferMemory),
-        b"cutter/memory" => Some(Stack::CutterMemory),
-        b"buffer/cutter/memory" => Some(Stack::BufferCutterMemory),
-        b"cutter/buffer/memory" => Some(Stack::CutterBufferMemory),
-        _ => None,
+/// The stack that a word names.
+impl TryFrom<&[u8]> for Stack {
+    type Error = LineFault;
+
+    ghost try_from_gives = { λ word r. r ≡ ok_or (stack_of word.now) UnknownStack };
+
+    fn try_from(word: &[u8]) -> Result<Stack, LineFault> {
+        match word {
+            b"memory" => Ok(Stack::Memory),
+            b"buffer/memory" => Ok(Stack::BufferMemory),
+            b"cutter/memory" => Ok(Stack::CutterMemory),
+            b"buffer/cutter/memory" => Ok(Stack::BufferCutterMemory),
+            b"cutter/buffer/memory" => Ok(Stack::CutterBufferMemory),
+            _ => Err(LineFault::UnknownStack),
+        }
     }
 }
 
-// The stack that the first word names.
-fn read_stack(text: &[u8]) -> Result<Stack, LineFault>
-    ensures { result ≡ stack_in text.now }
+// The stack that the first word names, and what follows it.
+fn read_stack(text: &[u8]) -> Result<(Stack, &[u8]), LineFault>
+    ensures { behind result ≡ with_rest text.now (stack_in text.now) }
 {
-    let Split { word, .. } = first_word(text)?;
-    stack_of(word).ok_or(LineFault::UnknownStack)
+    let Split { word, rest } = first_word(text)?;
+    Ok((Stack::try_from(word)?, rest))
 }
 
 // The number behind a name in a word.
@@ -72,24 +79,22 @@ fn setting_of(name: &[u8], word: &[u8]) -> Result<u64, LineFault>
     read_decimal(number).ok_or(LineFault::BadSetting)
 }
 
-// The number behind a name in the first word.
-fn read_setting(name: &[u8], text: &[u8]) -> Result<u64, LineFault>
-    ensures { result ≡ setting_in name.now text.now }
+// The number behind a name in the first word, and what follows that.
+fn read_setting<'a>(name: &[u8], text: &'a [u8]) -> Result<(u64, &'a [u8]), LineFault>
+    ensures { behind result ≡ with_rest text.now (setting_in name.now text.now) }
 {
-    let Split { word, .. } = first_word(text)?;
-    setting_of(name, word)
+    let Split { word, rest } = first_word(text)?;
+    Ok((setting_of(name, word)?, rest))
 }
 
 // `STACK max=N size=N`.
 fn read_settings(text: &[u8]) -> Result<Opening, LineFault>
     ensures { result ≡ opening_in text.now }
 {
-    let stack = read_stack(text)?;
-    let rest = next_word(text).rest;
-    let max = read_setting(b"max=", rest)?;
-    let rest = next_word(rest).rest;
-    let size = read_setting(b"size=", rest)?;
-    no_word(next_word(rest).rest)?;
+    let (stack, rest) = read_stack(text)?;
+    let (max, rest) = read_setting(b"max=", rest)?;
+    let (size, rest) = read_setting(b"size=", rest)?;
+    no_word(rest)?;
     Ok(Opening { stack, max, size })
 }
 

@@ -4,7 +4,9 @@
 
 ghost use Rattle.std.specs.Prelude.{◌≡◌, is_some, Some};
 ghost use Rattle.text.specs.Words.{word_of};
-ghost use Rattle.shelf_script.specs.Orders.{word_fault, number_in, one_in, one_or_none, verb_of, order_by, order_of, spelled, fault_text};
+ghost use Rattle.std.specs.Option.{ok_or};
+ghost use Rattle.shelf_script.specs.declared.order.LineFault.TheVariants.{UnknownCommand, Word};
+ghost use Rattle.shelf_script.specs.Orders.{behind, with_rest, number_in, one_in, one_or_none, verb_of, order_by, order_of, spelled, fault_text};
 
 use std::fmt;
 use text::decimal::read_decimal;
@@ -85,10 +87,8 @@ pub enum LineFault {
     NoShelf,
     /// It names no stack of shelves.
     UnknownStack,
-    /// A word is missing behind the others.
-    MissingWord,
-    /// A word is left over behind the others.
-    ExtraWord,
+    /// Its words are not those that belong there.
+    Word(WordFault),
     /// A word is not a decimal number below 2^64.
     BadNumber,
     /// A word is not the setting that belongs there.
@@ -105,8 +105,7 @@ impl fmt::Display for LineFault {
             LineFault::UnknownCommand => "unknown command",
             LineFault::NoShelf => "no shelf is open",
             LineFault::UnknownStack => "unknown stack of shelves",
-            LineFault::MissingWord => "a word is missing",
-            LineFault::ExtraWord => "a word too many",
+            LineFault::Word(fault) => return write!(f, "{fault}"),
             LineFault::BadNumber => "not a decimal number below 2^64",
             LineFault::BadSetting => "not max=NUMBER size=NUMBER",
             LineFault::BadHex => "not pairs of hexadecimal digits",
@@ -115,30 +114,49 @@ impl fmt::Display for LineFault {
 }
 
 impl From<WordFault> for LineFault {
-    ghost from_gives = { λ e r. r ≡ word_fault e };
+    ghost from_gives = { λ e r. r ≡ Word e };
 
-    fn from(fault: WordFault) -> LineFault {
-        match fault {
-            WordFault::Missing => LineFault::MissingWord,
-            WordFault::Extra => LineFault::ExtraWord,
+    fn from(lower: WordFault) -> LineFault {
+        LineFault::Word(lower)
+    }
+}
+
+/// What a word asks for.
+impl TryFrom<&[u8]> for Verb {
+    type Error = LineFault;
+
+    ghost try_from_gives = { λ word r. r ≡ ok_or (verb_of word.now) UnknownCommand };
+
+    fn try_from(word: &[u8]) -> Result<Verb, LineFault> {
+        match word {
+            b"make" => Ok(Verb::Make),
+            b"add" => Ok(Verb::Add),
+            b"cut" => Ok(Verb::Cut),
+            b"remove" => Ok(Verb::Remove),
+            b"sync" => Ok(Verb::Sync),
+            b"fail" => Ok(Verb::Fail),
+            b"restart" => Ok(Verb::Restart),
+            b"print" => Ok(Verb::Print),
+            _ => Err(LineFault::UnknownCommand),
         }
     }
 }
 
-// The number that the first word writes.
-fn read_number(text: &[u8]) -> Result<u64, LineFault>
-    ensures { result ≡ number_in text.now }
+// The number that the first word writes, and what follows it.
+fn read_number(text: &[u8]) -> Result<(u64, &[u8]), LineFault>
+    ensures { behind result ≡ with_rest text.now (number_in text.now) }
 {
-    let Split { word, .. } = first_word(text)?;
-    read_decimal(word).ok_or(LineFault::BadNumber)
+    let Split { word, rest } = first_word(text)?;
+    let number = read_decimal(word).ok_or(LineFault::BadNumber)?;
+    Ok((number, rest))
 }
 
 // One number, and no more.
 fn read_one(text: &[u8]) -> Result<u64, LineFault>
     ensures { result ≡ one_in text.now }
 {
-    let number = read_number(text)?;
-    no_word(next_word(text).rest)?;
+    let (number, rest) = read_number(text)?;
+    no_word(rest)?;
     Ok(number)
 }
 
@@ -152,24 +170,7 @@ fn read_one_or_none(text: &[u8]) -> Result<u64, LineFault>
     read_one(text)
 }
 
-// What a word asks for.
-fn read_verb(word: &[u8]) -> Option<Verb>
-    ensures { result ≡ verb_of word.now }
-{
-    match word {
-        b"make" => Some(Verb::Make),
-        b"add" => Some(Verb::Add),
-        b"cut" => Some(Verb::Cut),
-        b"remove" => Some(Verb::Remove),
-        b"sync" => Some(Verb::Sync),
-        b"fail" => Some(Verb::Fail),
-        b"restart" => Some(Verb::Restart),
-        b"print" => Some(Verb::Print),
-        _ => None,
-    }
-}
-
-// An order, from the second word of its line on. A verb stays a value, since whether a line is an order is asked by it alone.
+// An order, from the second word of its line on. A verb stays a value: whether a line is an order is asked of its first word alone.
 fn read_rest(verb: Verb, text: &[u8]) -> Result<Order<'_>, LineFault>
     ensures { spelled result ≡ order_by verb text.now }
 {
@@ -178,13 +179,13 @@ fn read_rest(verb: Verb, text: &[u8]) -> Result<Order<'_>, LineFault>
             blob: read_one(text)?,
         }),
         Verb::Add => {
-            let blob = read_number(text)?;
-            let hex = last_word(next_word(text).rest)?;
+            let (blob, rest) = read_number(text)?;
+            let hex = last_word(rest)?;
             Ok(Order::Add { blob, hex })
         }
         Verb::Cut => {
-            let blob = read_number(text)?;
-            let len = read_one(next_word(text).rest)?;
+            let (blob, rest) = read_number(text)?;
+            let len = read_one(rest)?;
             Ok(Order::Cut { blob, len })
         }
         Verb::Remove => Ok(Order::Remove {
@@ -194,8 +195,8 @@ fn read_rest(verb: Verb, text: &[u8]) -> Result<Order<'_>, LineFault>
             blob: read_one(text)?,
         }),
         Verb::Fail => {
-            let write = read_number(text)?;
-            let part = read_one_or_none(next_word(text).rest)?;
+            let (write, rest) = read_number(text)?;
+            let part = read_one_or_none(rest)?;
             Ok(Order::Fail { write, part })
         }
         Verb::Restart => {
@@ -215,13 +216,12 @@ pub fn read_order(line: &[u8]) -> Result<Order<'_>, LineFault>
     ensures { spelled result ≡ order_of line.now }
 {
     let Split { word, rest } = next_word(line);
-    let verb = read_verb(word).ok_or(LineFault::UnknownCommand)?;
-    read_rest(verb, rest)
+    read_rest(Verb::try_from(word)?, rest)
 }
 
 /// Whether a line is an order to a shelf, by its first word.
 pub fn is_order(line: &[u8]) -> bool
     ensures { result ≡ is_some (verb_of (word_of line.now)) }
 {
-    read_verb(next_word(line).word).is_some()
+    Verb::try_from(next_word(line).word).is_ok()
 }

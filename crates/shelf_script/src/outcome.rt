@@ -12,7 +12,7 @@ fn push_ending(out: &mut Vec<u8>, outcome: Result<(), ShelfFault>) -> Result<(),
     ensures { OnOk result (out.new.items ≡ out.old.items ++ (outcome_text outcome ++ (10 ∷ []))) }
 {
     match outcome {
-        Ok(()) => push_shown(out, &" -> ok\n"),
+        Ok(()) => out.extend_from_slice(b" -> ok\n"),
         Err(ShelfFault { cause, .. }) => { push_shown(out, &format_args!(" -> refused {cause}\n")) }
     }
 }

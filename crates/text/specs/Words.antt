@@ -1,7 +1,7 @@
 -- The words of a line. Assumes nothing.
 -- Words: is_blank, without_blanks, up_to_blank, from_blank, word_of, after_word, AllBlank, NoBlank, EndsWord, SplitsWord, is_end,
--- first_in, end_in, last_in, first_shown, shown, and_then, told_as.
-use Rattle.std.specs.Prelude.{◌≡◌, ℕ, Bool, true, false, cond, ◌||◌, List, [], ◌∷◌, ◌++◌, ◌==◌, Ok, Err, Result}
+-- word_fault_text, first_in, end_in, last_in, first_shown, shown, and_then, told_as.
+use Rattle.std.specs.Prelude.{◌≡◌, ℕ, Bool, true, false, cond, ◌||◌, List, [], ◌∷◌, ◌++◌, ◌==◌, Ok, Err, codes, Result}
 use Rattle.std.specs.Borrow.{Bor}
 use Rattle.std.specs.Result.{result_map_both}
 use Rattle.text.specs.declared.word.Split.{Split}
@@ -63,6 +63,11 @@ pub record SplitsWord (text word rest : List ℕ) : Type 0 where
 abbrev pub is_end : List ℕ → Bool
 is_end [] = true
 is_end (b ∷ bs) = b == 35
+
+-- why the words are not those that belong there, in words
+abbrev pub word_fault_text : WordFault → List ℕ
+word_fault_text Missing = codes "a word is missing"
+word_fault_text Extra = codes "a word too many"
 
 -- the first word, which must be there
 abbrev pub first_in : List ℕ → Result (List ℕ) WordFault

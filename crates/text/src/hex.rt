@@ -8,7 +8,6 @@ ghost use Rattle.std.specs.Option.{option_map};
 ghost use Rattle.text.specs.Grown.{Grown};
 ghost use Rattle.text.specs.Hex.{hex_digit, hex_of, hex_value, bytes_of, HexReadsBack, HexHasOneForm, bytes_in, bytes_text};
 
-use crate::shown::push_shown;
 use crate::word::is_word;
 use std::alloc::{AllocError, Global};
 
@@ -28,7 +27,7 @@ fn hex_value(digit: u8) -> Option<u8>
 
 /// Appends two upper-case digits for each of the bytes.
 ///
-/// Where memory runs out, `out` holds what it held and the digits of some of the bytes.
+/// Where memory runs out, `out` still begins with what it held.
 #[tactic(auto, using(crate::proofs::HexLaws::reads_back))]
 pub fn push_hex(out: &mut Vec<u8>, bytes: &[u8]) -> Result<(), AllocError>
     ensures writes { OnOk result (out.new.items ≡ out.old.items ++ hex_of bytes.now) }
@@ -39,7 +38,7 @@ pub fn push_hex(out: &mut Vec<u8>, bytes: &[u8]) -> Result<(), AllocError>
     for byte in bytes {
         write!(text, "{byte:02X}")?;
     }
-    push_shown(out, &text)
+    out.extend_from_slice(text.as_bytes())
 }
 
 /// The bytes that the text writes, two digits of either case for each; `None` where it holds another byte, or an odd

@@ -79,6 +79,10 @@ mod tests {
         assert!(rt; out.as_slice() == b"gate4".as_slice());
         push_error(&mut out, &"no gate")?;
         assert!(rt; out.as_slice() == b"gate4error: no gate\n".as_slice());
+        out.clear();
+        push_shown(&mut out, &WordFault::Missing)?;
+        push_shown(&mut out, &WordFault::Extra)?;
+        assert!(rt; out.as_slice() == b"a word is missinga word too many".as_slice());
         Ok(())
     }
 

@@ -10,7 +10,7 @@ use std::fmt::Display;
 
 /// Appends what is displayed: where its type states its text, just that text.
 ///
-/// Where memory runs out, `out` holds what it held and maybe some of the text.
+/// Where memory runs out, `out` still begins with what it held.
 pub fn push_shown<D: Display>(out: &mut Vec<u8>, shown: &D) -> Result<(), AllocError>
     ensures writes { IfSome (D.output shown.now) (λ text. OnOk result (out.new.items ≡ out.old.items ++ text)) }
     ensures keeps { Grown out.old.items out.new.items }
@@ -22,7 +22,7 @@ pub fn push_shown<D: Display>(out: &mut Vec<u8>, shown: &D) -> Result<(), AllocE
 
 /// Appends the line that tells of a fault: `error: ` and the fault's text.
 ///
-/// Where memory runs out, `out` holds what it held and maybe some of the line.
+/// Where memory runs out, `out` still begins with what it held.
 pub fn push_error<E: Display>(out: &mut Vec<u8>, fault: &E) -> Result<(), AllocError>
     ensures writes { IfSome (E.output fault.now) (λ text. OnOk result (out.new.items ≡ out.old.items ++ error_text text)) }
     ensures keeps { Grown out.old.items out.new.items }

@@ -3,9 +3,11 @@
 //! Kept true: blanks, then the word, then the rest are the whole text; no blank stands in the word; the rest is empty
 //! or begins with a blank; and the word is empty only where the whole text is blanks.
 
-ghost use Rattle.std.specs.Prelude.{◌≡◌, ◌≤◌, length, take, drop, IfOk};
-ghost use Rattle.text.specs.Words.{is_blank, without_blanks, up_to_blank, from_blank, word_of, after_word, SplitsWord, is_end, first_in, end_in, last_in, first_shown, shown};
+ghost use Rattle.std.specs.Prelude.{◌≡◌, ◌≤◌, length, take, drop, IfOk, Some};
+ghost use Rattle.text.specs.Words.{is_blank, without_blanks, up_to_blank, from_blank, word_of, after_word, SplitsWord, is_end, first_in, end_in, last_in, first_shown, shown, word_fault_text};
 ghost use Rattle.std.specs.Str.{bytes_eq};
+
+use std::fmt;
 
 /// The blank that mostly stands between words.
 const SPACE: u8 = b' ';
@@ -32,6 +34,17 @@ pub enum WordFault {
     Missing,
     /// A word is left over.
     Extra,
+}
+
+impl fmt::Display for WordFault {
+    ghost output = { λ e. Some (word_fault_text e) };
+
+    fn fmt<W: fmt::Write>(&self, f: &mut fmt::Formatter<W>) -> fmt::Result {
+        f.write_str(match self {
+            WordFault::Missing => "a word is missing",
+            WordFault::Extra => "a word too many",
+        })
+    }
 }
 
 /// Whether the byte stands between words.
