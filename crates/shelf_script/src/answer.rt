@@ -1,6 +1,6 @@
 //! What a line of a script does to a shelf, and what it is answered.
-// Each function here makes the text that it answers, and takes heap, shelf and line one by one: a struct around a lent
-// shelf would hide from the clauses what the shelf holds afterwards, and a closure that fills a text is no plainer.
+// Each function here makes the text that it answers: of what is appended to a longer one, a clause could only say that there is
+// such a text. Heap, shelf and line are taken one by one: a struct around a lent shelf would hide what it holds afterwards.
 
 ghost use Rattle.std.specs.Prelude.{◌≡◌, IfOk};
 ghost use Rattle.text.specs.Hex.{bytes_in};

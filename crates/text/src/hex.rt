@@ -3,10 +3,10 @@
 //! Kept true: what `push_hex` appends, `read_hex` reads as the same bytes; and a text that `read_hex` reads is, but for
 //! the case of its letters, what `push_hex` appends of the answer. So bytes have one text, but for that case.
 
-ghost use Rattle.std.specs.Prelude.{◌≡◌, ◌<◌, ◌++◌, IfOk, vec_items, OnOk};
+ghost use Rattle.std.specs.Prelude.{◌≡◌, ◌++◌, IfOk, vec_items, OnOk};
 ghost use Rattle.std.specs.Option.{option_map};
 ghost use Rattle.text.specs.Grown.{Grown};
-ghost use Rattle.text.specs.Hex.{hex_digit, hex_of, hex_value, bytes_of, HexReadsBack, HexHasOneForm, bytes_in, bytes_text};
+ghost use Rattle.text.specs.Hex.{hex_of, hex_value, bytes_of, HexReadsBack, HexHasOneForm, bytes_in, bytes_text};
 
 use crate::word::is_word;
 use std::alloc::{AllocError, Global};

@@ -1,5 +1,6 @@
 //! The text of what can be displayed.
-// Each writer says in an equation what it appends to a `Vec<u8>`: a type around the vector would only save the word `.items`.
+// `write!` on a `Vec<u8>` answers an `io::Error`; what is appended here answers the `AllocError` that it is. Each writer says by an
+// equation what it appends: a type around the vector would only save the word `.items`, and a word for the equation is no shorter.
 
 ghost use Rattle.std.specs.Prelude.{◌≡◌, ◌++◌, IfSome, OnOk};
 ghost use Rattle.text.specs.Grown.{Grown};

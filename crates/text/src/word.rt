@@ -125,7 +125,7 @@ pub fn last_word(text: &[u8]) -> Result<&[u8], WordFault>
 }
 
 /// Whether two words are the same.
-// It is `==`, under a name for words that are values; a word that stands in the code is matched.
+// It is `==` with a name, public before and so still: a word that stands in the code is matched by a byte string.
 pub fn is_word(word: &[u8], other: &[u8]) -> bool
     ensures { result ≡ bytes_eq word.now other.now }
 {
