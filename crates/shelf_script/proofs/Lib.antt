@@ -1,4 +1,3 @@
 mod Printing
-mod Settings
 pub mod Listing
 pub mod Steps

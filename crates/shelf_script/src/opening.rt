@@ -73,10 +73,9 @@ fn read_stack(text: &[u8]) -> Result<(Stack, &[u8]), LineFault>
 fn setting_of(name: &[u8], word: &[u8]) -> Result<u64, LineFault>
     ensures { result ≡ setting_of name.now word.now }
 {
-    let Some(number) = word.strip_prefix(name) else {
-        return Err(LineFault::BadSetting);
-    };
-    read_decimal(number).ok_or(LineFault::BadSetting)
+    word.strip_prefix(name)
+        .and_then(read_decimal)
+        .ok_or(LineFault::BadSetting)
 }
 
 // The number behind a name in the first word, and what follows that.

@@ -48,6 +48,7 @@ pub fn read_hex(heap: Global, text: &[u8]) -> Result<Option<Vec<u8>>, AllocError
     ensures one_form { IfOk result (λ o. HexHasOneForm text.now (option_map vec_items o)) }
 {
     let mut bytes = Vec::new(heap);
+    // A pattern takes two digits off the front and leaves the rest; pairs by place would need the odd digit besides.
     let mut rest = text;
     while let [high, low, tail @ ..] = rest {
         let (Some(high), Some(low)) = (hex_value(*high), hex_value(*low)) else {
