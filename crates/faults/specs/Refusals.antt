@@ -12,7 +12,7 @@ use Rattle.std.specs.Prelude.{ℕ, Some, None}
 use Rattle.faults.specs.declared.refusal.Layer.{Layer}
 use Rattle.faults.specs.declared.refusal.Layer.TheVariants as layer
 use Rattle.faults.specs.declared.refusal.Detail.{Detail}
-use Rattle.faults.specs.declared.refusal.Detail.TheVariants.{Nothing, Reason, Kind, KindOfBlob, Byte}
+use Rattle.faults.specs.declared.refusal.Detail.TheVariants.{Reason, Kind, KindOfBlob, Byte}
 use Rattle.faults.specs.declared.refusal.Refusal.{Refusal}
 use Rattle.faults.specs.declared.shelf.ShelfCause.{ShelfCause}
 use Rattle.faults.specs.declared.shelf.ShelfCause.TheVariants as shelf
@@ -29,19 +29,19 @@ use Rattle.faults.specs.declared.recovery.RecoveryFault.TheVariants as recovery
 
 -- a number, and no value beside it
 abbrev pub told : Layer → ℕ → Refusal
-told l n = record { layer = l; number = Some n; detail = Nothing }
+told l n = record { layer = l; number = Some n; detail = None }
 
 -- no number: no act of the journal lets such a fault out
 abbrev pub unnumbered : Layer → Refusal
-unnumbered l = record { layer = l; number = None; detail = Nothing }
+unnumbered l = record { layer = l; number = None; detail = None }
 
 -- corruption of kind 8: the bytes of a store fit no state of it
 abbrev pub damaged : Layer → Refusal
-damaged l = record { layer = l; number = Some 10; detail = Kind 8 }
+damaged l = record { layer = l; number = Some 10; detail = Some (Kind 8) }
 
 -- a frame that cannot be read, by its blob and the byte where it begins
 abbrev pub unread : ℕ → Place → Refusal
-unread n place = record { layer = layer.Frames; number = Some n; detail = Byte place }
+unread n place = record { layer = layer.Frames; number = Some n; detail = Some (Byte place) }
 
 abbrev pub cause_refusal : ShelfCause → Refusal
 cause_refusal shelf.Missing = unnumbered layer.Shelf
@@ -80,12 +80,12 @@ abbrev pub recovery_refusal : RecoveryFault → Refusal
 recovery_refusal recovery.ItemPruned = told layer.Recovery 1
 recovery_refusal recovery.ItemOutOfRange = told layer.Recovery 2
 recovery_refusal recovery.NotOpen = told layer.Recovery 3
-recovery_refusal (recovery.ItemRefused reason) = record { layer = layer.Recovery; number = Some 4; detail = Reason reason }
+recovery_refusal (recovery.ItemRefused reason) = record { layer = layer.Recovery; number = Some 4; detail = Some (Reason reason) }
 recovery_refusal recovery.NoSpace = told layer.Recovery 5
 recovery_refusal recovery.PositionLimit = told layer.Recovery 6
 recovery_refusal recovery.ShortBuffer = told layer.Recovery 7
 recovery_refusal recovery.Config = told layer.Recovery 8
 recovery_refusal recovery.OffsetOverflow = told layer.Recovery 9
-recovery_refusal (recovery.Corrupt c) = record { layer = layer.Recovery; number = Some 10; detail = corruption_detail c }
+recovery_refusal (recovery.Corrupt c) = record { layer = layer.Recovery; number = Some 10; detail = Some (corruption_detail c) }
 recovery_refusal (recovery.Frame e) = frame_refusal e
 recovery_refusal (recovery.Offsets e) = offsets_refusal e

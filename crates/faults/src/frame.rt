@@ -2,7 +2,7 @@
 
 ghost use Rattle.std.specs.Prelude.{◌≡◌};
 ghost use Rattle.faults.specs.declared.frame.FrameFault.TheVariants.{Shelf};
-ghost use Rattle.faults.specs.Refusals.{frame_refusal};
+ghost use Rattle.faults.specs.Refusals.{frame_refusal, unread};
 
 use crate::refusal::{Detail, Layer, Refusal};
 use crate::shelf::ShelfFault;
@@ -40,15 +40,20 @@ impl From<FrameFault> for Refusal {
     ghost from_gives = { λ e r. r ≡ frame_refusal e };
 
     fn from(fault: FrameFault) -> Refusal {
-        let (number, place) = match fault {
-            FrameFault::Shelf(shelf) => return Refusal::from(shelf),
-            FrameFault::BadPrefix(place) => (11, place),
-            FrameFault::ItemUnreadable(place) => (12, place),
-        };
-        Refusal {
-            layer: Layer::Frames,
-            number: Some(number),
-            detail: Detail::Byte(place),
+        match fault {
+            FrameFault::BadPrefix(place) => unread(11, place),
+            FrameFault::ItemUnreadable(place) => unread(12, place),
+            FrameFault::Shelf(shelf) => Refusal::from(shelf),
         }
+    }
+}
+
+/// A frame that cannot be read, by its blob and the byte where it begins.
+fn unread(number: u8, place: Place) -> Refusal
+    ensures { result ≡ unread number place }
+{
+    Refusal {
+        detail: Some(Detail::Byte(place)),
+        ..Refusal::told(Layer::Frames, number)
     }
 }

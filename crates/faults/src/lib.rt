@@ -1,4 +1,4 @@
-//! What can go wrong, layer by layer, and the one table from a fault to its refusal.
+//! What can go wrong, layer by layer, and the refusal that each fault is shown as.
 //!
 //! A fault of a lower layer is kept whole inside the fault of the layer above it, so nothing that
 //! the lower layer told (its cause, its blob, its byte) is lost on the way up:

@@ -4,7 +4,7 @@ ghost use Rattle.std.specs.Prelude.{◌≡◌};
 ghost use Rattle.faults.specs.declared.offsets.OffsetsFault.TheVariants.{Shelf};
 ghost use Rattle.faults.specs.Refusals.{offsets_refusal};
 
-use crate::refusal::{Detail, Layer, Refusal};
+use crate::refusal::{Layer, Refusal};
 use crate::shelf::ShelfFault;
 
 /// Why an offsets journal refused a call, or could not carry it out.
@@ -35,17 +35,12 @@ impl From<OffsetsFault> for Refusal {
     ghost from_gives = { λ e r. r ≡ offsets_refusal e };
 
     fn from(fault: OffsetsFault) -> Refusal {
-        let (number, detail) = match fault {
-            OffsetsFault::Shelf(shelf) => return Refusal::from(shelf),
-            OffsetsFault::Full => (Some(5), Detail::Nothing),
-            OffsetsFault::Down => (Some(13), Detail::Nothing),
-            OffsetsFault::Damaged => (Some(10), Detail::Kind(8)),
-            OffsetsFault::OutOfRange => (None, Detail::Nothing),
-        };
-        Refusal {
-            layer: Layer::Recovery,
-            number,
-            detail,
+        match fault {
+            OffsetsFault::Full => Refusal::told(Layer::Recovery, 5),
+            OffsetsFault::Down => Refusal::told(Layer::Recovery, 13),
+            OffsetsFault::Damaged => Refusal::damaged(Layer::Recovery),
+            OffsetsFault::OutOfRange => Refusal::unnumbered(Layer::Recovery),
+            OffsetsFault::Shelf(shelf) => Refusal::from(shelf),
         }
     }
 }

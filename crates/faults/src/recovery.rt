@@ -114,24 +114,25 @@ impl From<RecoveryFault> for Refusal {
     ghost from_gives = { λ e r. r ≡ recovery_refusal e };
 
     fn from(fault: RecoveryFault) -> Refusal {
-        let (number, detail) = match fault {
-            RecoveryFault::Frame(frame) => return Refusal::from(frame),
-            RecoveryFault::Offsets(offsets) => return Refusal::from(offsets),
-            RecoveryFault::ItemPruned => (1, Detail::Nothing),
-            RecoveryFault::ItemOutOfRange => (2, Detail::Nothing),
-            RecoveryFault::NotOpen => (3, Detail::Nothing),
-            RecoveryFault::ItemRefused(reason) => (4, Detail::Reason(reason)),
-            RecoveryFault::NoSpace => (5, Detail::Nothing),
-            RecoveryFault::PositionLimit => (6, Detail::Nothing),
-            RecoveryFault::ShortBuffer => (7, Detail::Nothing),
-            RecoveryFault::Config => (8, Detail::Nothing),
-            RecoveryFault::OffsetOverflow => (9, Detail::Nothing),
-            RecoveryFault::Corrupt(corruption) => (10, Detail::from(corruption)),
-        };
-        Refusal {
-            layer: Layer::Recovery,
-            number: Some(number),
-            detail,
+        match fault {
+            RecoveryFault::ItemPruned => Refusal::told(Layer::Recovery, 1),
+            RecoveryFault::ItemOutOfRange => Refusal::told(Layer::Recovery, 2),
+            RecoveryFault::NotOpen => Refusal::told(Layer::Recovery, 3),
+            RecoveryFault::ItemRefused(reason) => Refusal {
+                detail: Some(Detail::Reason(reason)),
+                ..Refusal::told(Layer::Recovery, 4)
+            },
+            RecoveryFault::NoSpace => Refusal::told(Layer::Recovery, 5),
+            RecoveryFault::PositionLimit => Refusal::told(Layer::Recovery, 6),
+            RecoveryFault::ShortBuffer => Refusal::told(Layer::Recovery, 7),
+            RecoveryFault::Config => Refusal::told(Layer::Recovery, 8),
+            RecoveryFault::OffsetOverflow => Refusal::told(Layer::Recovery, 9),
+            RecoveryFault::Corrupt(corruption) => Refusal {
+                detail: Some(Detail::from(corruption)),
+                ..Refusal::told(Layer::Recovery, 10)
+            },
+            RecoveryFault::Frame(frame) => Refusal::from(frame),
+            RecoveryFault::Offsets(offsets) => Refusal::from(offsets),
         }
     }
 }

@@ -1,6 +1,7 @@
 //! What a refusal tells: which layer found the fault, its number, and the values beside it.
 
-ghost use Rattle.std.specs.Prelude.{Some};
+ghost use Rattle.std.specs.Prelude.{◌≡◌, Some};
+ghost use Rattle.faults.specs.Refusals.{told, unnumbered, damaged};
 ghost use Rattle.faults.specs.Texts.{detail_text, refusal_text};
 
 use crate::frame::Place;
@@ -21,16 +22,13 @@ pub enum Layer {
 /// The values that a refusal carries beside its number.
 #[derive(Clone, Copy, PartialEq, Eq)]
 pub enum Detail {
-    /// The number says it all.
-    // One of five answers to what goes with a number: an `Option` around the other four would be taken apart at the same places.
-    Nothing,
     /// The reason for which an item kind refuses an item.
     Reason(Reason),
     /// The kind of a corruption.
-    // Kinds are a closed list that users and other programs know: `Corruption` is the fault, and `From` the one table to its kind.
+    // A closed list that users and other programs know (rule of the project): `Corruption` is the fault, each kind stands in its `From`, and 8 in `damaged`.
     Kind(u8),
     /// The kind of a corruption, and the blob that it names.
-    // A kind as above, shown with a blob.
+    // A kind of the same list (rule of the project); shown with a blob or without are two shapes of what is printed.
     KindOfBlob { kind: u8, blob: u64 },
     /// The blob, and the byte in it where the frame begins.
     Byte(Place),
@@ -42,10 +40,44 @@ pub struct Refusal {
     /// The layer of the innermost fault.
     pub layer: Layer,
     /// 1 to 13; none for a fault that no act of the journal lets out.
-    // Numbers are a closed list that users and other programs know: the enums are the faults, and `From` the one table to their numbers.
+    // A closed list that users and other programs know (rule of the project): the enums are the faults, and each fault's number stands in its `From`.
     pub number: Option<u8>,
-    /// The values that go with the number.
-    pub detail: Detail,
+    /// The values that go with the number, if it has any.
+    pub detail: Option<Detail>,
+}
+
+impl Refusal {
+    /// A number, and no value beside it.
+    pub(crate) fn told(layer: Layer, number: u8) -> Refusal
+        ensures { result ≡ told layer number }
+    {
+        Refusal {
+            layer,
+            number: Some(number),
+            detail: None,
+        }
+    }
+
+    /// No number: no act of the journal lets such a fault out.
+    pub(crate) fn unnumbered(layer: Layer) -> Refusal
+        ensures { result ≡ unnumbered layer }
+    {
+        Refusal {
+            layer,
+            number: None,
+            detail: None,
+        }
+    }
+
+    /// Corruption of kind 8: the bytes of a store fit no state of it.
+    pub(crate) fn damaged(layer: Layer) -> Refusal
+        ensures { result ≡ damaged layer }
+    {
+        Refusal {
+            detail: Some(Detail::Kind(8)),
+            ..Refusal::told(layer, 10)
+        }
+    }
 }
 
 impl fmt::Display for Detail {
@@ -53,7 +85,6 @@ impl fmt::Display for Detail {
 
     fn fmt<W: fmt::Write>(&self, f: &mut fmt::Formatter<W>) -> fmt::Result {
         match *self {
-            Detail::Nothing => Ok(()),
             Detail::Reason(reason) => write!(f, " reason {}", reason.number),
             Detail::Kind(kind) => write!(f, " kind {kind}"),
             Detail::KindOfBlob { kind, blob } => write!(f, " kind {kind} blob {blob}"),
@@ -70,7 +101,10 @@ impl fmt::Display for Refusal {
         if let Some(number) = self.number {
             write!(f, " {number}")?;
         }
-        write!(f, "{}", self.detail)
+        if let Some(detail) = self.detail {
+            write!(f, "{detail}")?;
+        }
+        Ok(())
     }
 }
 
@@ -85,7 +119,7 @@ mod tests {
         let refusal = Refusal {
             layer: Layer::Recovery,
             number: Some(10),
-            detail: Detail::KindOfBlob { kind: 3, blob: 7 },
+            detail: Some(Detail::KindOfBlob { kind: 3, blob: 7 }),
         };
         let text = format!(in rt.alloc(); "{refusal}, {}", ShelfCause::TooLong)?;
         assert_eq!(rt; text.as_str(), "refused 10 kind 3 blob 7, too-long");

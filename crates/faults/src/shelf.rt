@@ -4,7 +4,7 @@ ghost use Rattle.std.specs.Prelude.{◌≡◌, Some};
 ghost use Rattle.faults.specs.Refusals.{shelf_refusal};
 ghost use Rattle.faults.specs.Texts.{cause_name};
 
-use crate::refusal::{Detail, Layer, Refusal};
+use crate::refusal::{Layer, Refusal};
 use std::fmt;
 
 /// Why a shelf refused a call, or could not carry it out.
@@ -56,19 +56,14 @@ impl From<ShelfFault> for Refusal {
     ghost from_gives = { λ e r. r ≡ shelf_refusal e };
 
     fn from(fault: ShelfFault) -> Refusal {
-        let (number, detail) = match fault.cause {
-            ShelfCause::Full => (Some(5), Detail::Nothing),
-            ShelfCause::Down => (Some(13), Detail::Nothing),
-            ShelfCause::Damaged => (Some(10), Detail::Kind(8)),
+        match fault.cause {
+            ShelfCause::Full => Refusal::told(Layer::Shelf, 5),
+            ShelfCause::Down => Refusal::told(Layer::Shelf, 13),
+            ShelfCause::Damaged => Refusal::damaged(Layer::Shelf),
             ShelfCause::Missing
             | ShelfCause::Present
             | ShelfCause::TooLong
-            | ShelfCause::OutOfRange => { (None, Detail::Nothing) }
-        };
-        Refusal {
-            layer: Layer::Shelf,
-            number,
-            detail,
+            | ShelfCause::OutOfRange => Refusal::unnumbered(Layer::Shelf),
         }
     }
 }
