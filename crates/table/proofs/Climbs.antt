@@ -1,4 +1,4 @@
--- `Rising`, said row by row along the rows, is the same.
+-- Today's `Rising`, over all pairs of rows, is the recursion that stood before it: `Climbs`, said row by row along the rows.
 use Rattle.std.proofs.Common.{ℕ, zero, suc, ◌<◌, List, [], ◌∷◌, arith}
 use Rattle.table.specs.Tables.{Rising, Higher}
 

@@ -2,7 +2,8 @@
 //!
 //! A row that goes in shifts the later ones up by one, and one that goes out shifts them down. What stands behind the
 //! rows in use is left alone, and a refused edit leaves the whole slice as it is. Rows that rise still do after it.
-// They take a slice and a count, since a table stands in a slice of the caller's, changed in place, with no heap.
+// A rule of the project: a table is kept over a slice of the caller's rows, with no heap. The functions take that slice
+// and a count, since a store that keeps rows and count in fields of its own calls them too.
 
 ghost use Rattle.table.specs.Slices.{Inserts, Removes, Changes};
 
@@ -37,6 +38,7 @@ pub fn remove_in<R: Row>(rows: &mut [R], len: usize, key: u64) -> Option<R>
 }
 
 /// Puts the row in the place of that in use which has its key, and answers whether there was one.
+// A bool, as the tests have it: no value goes with it, since the row that was there is what the caller just looked up.
 pub fn change_in<R: Row>(rows: &mut [R], len: usize, row: R) -> bool
     ensures { Changes R.number len row rows.old result rows.new }
 {

@@ -19,7 +19,8 @@ fn rises<R: Row>(rows: &[R]) -> bool
 }
 
 /// The rows in use of a lent slice, in rising order of their keys.
-// The slice and the count stand side by side, since each method hands both to a function that takes no heap.
+// A rule of the project: a table is kept over a slice of the caller's rows, with no heap. The methods hand the slice to
+// functions, which a store that keeps rows and count in fields of its own calls too.
 #[derive(Drop)]
 pub struct Table<'a, R: Row> {
     /// The rows, those in use first.
@@ -45,7 +46,8 @@ impl<'a, R: Row> Table<'a, R> {
     pub fn new(rows: &'a mut [R], len: usize) -> Option<Table<'a, R>>
         ensures { elim result [ Some table ↦ Opened R.number len rows.old table | None ↦ Unopened R.number len rows.old ] }
     {
-        if len > rows.len() || !rises(&rows[..len]) {
+        let used = rows.get(..len)?;
+        if !rises(used) {
             return None;
         }
         Some(Table { rows, len })
@@ -93,6 +95,7 @@ impl<'a, R: Row> Table<'a, R> {
     }
 
     /// Puts the row in the place of that with its key, and answers whether there was one.
+    // A bool, as the tests have it: no value goes with it, since the row that was there is what the caller just looked up.
     pub fn change(&mut self, row: R) -> bool
         ensures { TableChanges R.number row self.old result self.new }
     {

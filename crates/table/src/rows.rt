@@ -2,7 +2,8 @@
 //!
 //! The rows in use are the first `len` of a slice, or all of it where `len` is larger. The search halves the part that
 //! is left, so it reads few rows of many. It answers for any rows; where they rise, it finds each key that is there.
-// The functions take a slice and a count, since a table stands in a slice of the caller's and takes no heap.
+// A rule of the project: a table is kept over a slice of the caller's rows, with no heap. The functions take that slice
+// and a count, since a store that keeps rows and count in fields of its own calls them too.
 
 ghost use Rattle.std.specs.Prelude.{◌≡◌, ℕ, take};
 ghost use Rattle.table.specs.Tables.{Found, Got};
@@ -36,7 +37,7 @@ fn search<R: Row>(rows: &[R], key: u64) -> Result<usize, usize>
 fn in_use<R: Row>(rows: &[R], len: usize) -> &[R]
     ensures { result.now ≡ take len rows.now }
 {
-    &rows[..len.min(rows.len())]
+    rows.get(..len).unwrap_or(rows)
 }
 
 /// The place of the key among the rows in use, or the place where it would stand.
