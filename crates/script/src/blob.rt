@@ -12,7 +12,7 @@ use std::alloc::AllocError;
 const BLOB: u64 = 0;
 
 // Appends the line of the piece that stands at a byte, behind `index` frames, and answers the size of
-// an item, behind which the reading goes on.
+// an item, behind which the reading goes on. Two functions take index and byte: a struct of the two is no plainer.
 fn push_piece<K: ItemText>(
     out: &mut Vec<u8>,
     kind: &K,
@@ -23,21 +23,15 @@ fn push_piece<K: ItemText>(
     ensures { IfOk result (λ next. PieceTold (K.text kind.now) index byte (piece_behind (K.meaning kind.now) bytes.now index byte) out.old.items out.new.items next) }
 {
     match piece_at(kind, Place { blob: BLOB, byte }, index, bytes) {
-        Ok(
-            Piece::Item {
-                payload,
-                place: _,
-                size,
-            },
-        ) => {
+        Ok(Piece::Item { payload, size, .. }) => {
             push_frame(out, kind, index, byte, payload)?;
             Ok(Some(size))
         }
-        Ok(Piece::Torn { rest, place: _ }) => {
+        Ok(Piece::Torn { rest, .. }) => {
             push_torn(out, byte, rest.len() as u64)?;
             Ok(None)
         }
-        Ok(Piece::End { place: _ }) => {
+        Ok(Piece::End { .. }) => {
             push_end(out, byte)?;
             Ok(None)
         }

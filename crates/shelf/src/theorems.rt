@@ -1,5 +1,6 @@
 //! What is true of every shelf, over its meaning alone.
 // The laws of every kind of store are said once, in `power`; a function holds one for one kind, since a contract holds no law over any rules.
+// What a restart may leave is said of each kind by itself: the statements differ in more than the store.
 
 ghost use Rattle.power.specs.Laws.{RestartsOnce, StatesStayGood};
 ghost use Rattle.shelf.specs.Laws.{shelf_rules, FailedAsRestart, SafeBytesStay};
