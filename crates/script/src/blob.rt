@@ -43,7 +43,8 @@ fn push_piece<K: ItemText>(
 }
 
 // Appends the report of a blob whose frames are counted from position 0 on.
-// The loop stays one: what stands at a byte says where the next frame begins, and the index is what is told.
+// The walk is a loop as in `scan_blob`, by the same rule of the project; of the two one counts and one writes, so an iterator that both
+// would use is longer than what they share.
 pub(crate) fn push_blob<K: ItemText>(
     out: &mut Vec<u8>,
     kind: &K,
