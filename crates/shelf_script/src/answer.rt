@@ -62,6 +62,7 @@ fn print_text<S: Shelf>(heap: Global, shelf: &mut S, line: &[u8]) -> Result<Vec<
     ensures { IfOk result (λ v. Shown line.now (S.seen shelf.old) v.items (S.seen shelf.new)) }
 {
     let mut out = Vec::new(heap);
+    // A shelf's fault is an answer, and a lack of memory is none: the two go different ways.
     match push_blobs(&mut out, shelf) {
         Ok(()) => Ok(out),
         Err(PrintFault::Shelf(fault)) => outcome_text(heap, line, Err(fault)),
@@ -69,7 +70,7 @@ fn print_text<S: Shelf>(heap: Global, shelf: &mut S, line: &[u8]) -> Result<Vec<
     }
 }
 
-// Carries an order out and tells how it ended.
+// Carries an order out and tells how it ended. An order is data, and an arm for each says which call it is.
 fn obey<S: Shelf>(
     heap: Global,
     shelf: &mut S,
