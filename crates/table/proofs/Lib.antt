@@ -1,4 +1,5 @@
 pub mod Climbs
+pub mod Halving
 pub mod Keys
 pub mod Places
 pub mod Shifts

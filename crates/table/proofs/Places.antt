@@ -1,12 +1,9 @@
 -- Where a search for a key ends among rows, and what an edit at that place makes of rows that rise.
 use Rattle.std.proofs.Common.{◌≡◌, ℕ, ◌+◌, ◌-◌, ◌<◌, ◌≤◌, ◌≢◌, Bool, true, false, ltb, Decides, List, [], ◌∷◌, length, get_or, take, drop, set, Some, None, Ok, Err, Result, sym, refl, ap, ◌∙◌, subst, add-one, arith}
 use Rattle.std.specs.List.{AllAdjacentBelow, IsAllAdjacentAnswer, insert, remove}
-use Rattle.std.specs.List.Sorted.{IsSearchInRange, IsBinarySearchResult, IsNonDecreasingBy}
 use Rattle.std.specs.Result.{result_ok}
-use Rattle.std.specs.Ordering.{nat_cmp, ordering_index}
 use Rattle.std.proofs.lemmas.Bool.{false≢true}
 use Rattle.std.proofs.lemmas.Bool.Decides.{nat_tests}
-use Rattle.std.proofs.lemmas.Cmp.{ranked}
 use Rattle.std.proofs.lemmas.Grind.{common_steps}
 use Rattle.std.proofs.lemmas.List.{length-take-le, take_at, take-set, get_or-set_same, length-set}
 use Rattle.std.proofs.lemmas.List.Edits.{length-insert, get_or-insert_below, get_or-insert_at, get_or-insert_above, length-remove}
@@ -18,47 +15,25 @@ use Rattle.table.proofs.Keys.{row_of-absent, row_of-at, row_of-some, row_of-inse
 
 module _ {R : Type 0} (key : R → ℕ) (k : ℕ) (rows : List R) where
   -- of rows that rise, those before one have lower keys
-  lower_before : (i : ℕ) (d : R) → i < length rows → key (get_or rows i d) ≡ k → Rising key rows → Lower key k (take i rows)
+  pub lower_before : (i : ℕ) (d : R) → i < length rows → key (get_or rows i d) ≡ k → Rising key rows → Lower key k (take i rows)
   lower_before i d h e up j x lt = grind (arith, common_steps, up j i x)
 
   -- and those behind it higher ones
-  higher_behind : (i : ℕ) (d : R) → i < length rows → key (get_or rows i d) ≡ k → Rising key rows → Higher key k (drop (i + 1) rows)
+  pub higher_behind : (i : ℕ) (d : R) → i < length rows → key (get_or rows i d) ≡ k → Rising key rows → Higher key k (drop (i + 1) rows)
   higher_behind i d h e up j x lt = grind (arith, common_steps, up i (i + 1 + j) x)
 
   -- no row has a key that lies between those before a place and those from it on
-  row_of-gap : (i : ℕ) → Lower key k (take i rows) → Higher key k (drop i rows) → row_of key k rows ≡ None
+  pub row_of-gap : (i : ℕ) → Lower key k (take i rows) → Higher key k (drop i rows) → row_of key k rows ≡ None
   row_of-gap i low high = row_of-absent key k rows (λ m d h same. grind (arith, common_steps, low m d, high (m - i) d))
-
-  -- the comparisons with a key rise along rows that do, as a search asks
-  comparisons_rise : Rising key rows → IsNonDecreasingBy (λ r. ordering_index (nat_cmp (key r) k)) rows
-  comparisons_rise up i j d le h =
-      let keys : key (get_or rows i d) ≤ key (get_or rows j d) = grind (arith, up i j d, λ (same : i ≡ j). ap (λ (z : ℕ). key (get_or rows z d)) same) in
-      grind (arith, nat_tests)
-
-  -- a row with the key is found
-  found_at : (i : ℕ) → i < length rows → ((d : R) → key (get_or rows i d) ≡ k) → FoundAt key k rows i
-  found_at i h hit = record {
-    within = h;
-    hit = hit;
-    row = λ up d. row_of-at key k rows i d h (hit d) (lower_before i d h (hit d) up);
-  }
 
   -- the place that an answer tells
   pub found_ok : (r : Result ℕ ℕ) (i : ℕ) → Found key k rows r → Some i ≡ result_ok r → FoundAt key k rows i
   found_ok (Ok j) i found e = subst (λ (z : ℕ). FoundAt key k rows z) (grind arith) found
   found_ok (Err j) i found e = grind arith
 
-  -- what a search by key answers, of any rows and of those that rise
-  pub searched : (r : Result ℕ ℕ) → IsSearchInRange r (length rows) → IsBinarySearchResult (λ x. nat_cmp (key x) k) rows r → Found key k rows r
-  searched (Ok i) within equal = found_at i within (λ d. ranked _ k _ (sym (equal d)))
-  searched (Err i) within parted =
-      let low : Rising key rows → Lower key k (take i rows) = λ up j d h. grind (arith, common_steps, nat_tests, (parted (comparisons_rise up)).0 j d) in
-      let high : Rising key rows → Higher key k (drop i rows) = λ up j d h. grind (arith, common_steps, nat_tests, (parted (comparisons_rise up)).1 (i + j) d) in
-      record { within = within; lower = low; higher = high; row = λ up. row_of-gap i (low up) (high up) }
-
 module _ {R : Type 0} (key : R → ℕ) (rows : List R) where
   -- keys that rise from each row to the next rise from each to all behind it
-  rising_near : AllAdjacentBelow (λ x y. key x < key y) rows (length rows) → Rising key rows
+  pub rising_near : AllAdjacentBelow (λ x y. key x < key y) rows (length rows) → Rising key rows
   rising_near near i j d lt h =
       let far = IsNonDecreasingBy-from_all_adjacent key rows (λ m e l. let one = near m e l in omega (arith, one)) in
       omega (arith, near i d (omega arith), far (i + 1) j d (omega arith) h)

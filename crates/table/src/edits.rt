@@ -105,4 +105,44 @@ mod tests {
         assert_eq!(rt; get_in(&rows, 2, 9), Some(bright));
         assert_eq!(rt; get_in(&rows, 7, 3), Some(LOW));
     }
+
+    // Rows that do not rise are answered too. The search reads the middle row of those left and leaves at a hit: of 7,
+    // 5, 1 it finds 5 at once, and misses 7 behind the last row and 1 before the first; of 5, 5, 5 it finds the middle
+    // one.
+    #[test]
+    fn rows_that_fall_are_answered_too(rt: HostRuntime) {
+        let seven = Lamp { key: 7, light: 70 };
+        let one = Lamp { key: 1, light: 10 };
+        let bright = Lamp { key: 5, light: 55 };
+        let mut rows = [seven, MIDDLE, one, DARK];
+        assert_eq!(rt; find_in(&rows, 3, 5), Ok(1));
+        assert_eq!(rt; find_in(&rows, 3, 7), Err(3));
+        assert_eq!(rt; find_in(&rows, 3, 1), Err(0));
+        assert_eq!(rt; get_in(&rows, 3, 5), Some(MIDDLE));
+        assert_eq!(rt; get_in(&rows, 3, 7), None);
+        assert_eq!(rt; insert_in(&mut rows, 3, bright), Err(TableFault::Present));
+        assert_eq!(rt; change_in(&mut rows, 3, bright), true);
+        assert_eq!(rt; rows, [seven, bright, one, DARK]);
+        assert_eq!(rt; change_in(&mut rows, 3, one), false);
+        assert_eq!(rt; remove_in(&mut rows, 3, 7), None);
+        assert_eq!(rt; remove_in(&mut rows, 3, 5), Some(bright));
+        assert_eq!(rt; rows, [seven, one, bright, DARK]);
+        assert_eq!(rt; insert_in(&mut rows, 2, seven), Ok(()));
+        assert_eq!(rt; rows, [seven, one, seven, DARK]);
+    }
+
+    #[test]
+    fn rows_with_one_key_are_answered_too(rt: HostRuntime) {
+        let first = Lamp { key: 5, light: 1 };
+        let last = Lamp { key: 5, light: 9 };
+        let bright = Lamp { key: 5, light: 55 };
+        let mut rows = [first, MIDDLE, last, DARK];
+        assert_eq!(rt; find_in(&rows, 3, 5), Ok(1));
+        assert_eq!(rt; get_in(&rows, 3, 5), Some(MIDDLE));
+        assert_eq!(rt; insert_in(&mut rows, 3, bright), Err(TableFault::Present));
+        assert_eq!(rt; change_in(&mut rows, 3, bright), true);
+        assert_eq!(rt; rows, [first, bright, last, DARK]);
+        assert_eq!(rt; remove_in(&mut rows, 3, 5), Some(bright));
+        assert_eq!(rt; rows, [first, last, bright, DARK]);
+    }
 }

@@ -27,10 +27,27 @@ pub enum TableFault {
 }
 
 /// The place of the key among all the rows, or the place where it would stand.
+// A loop, and not the library's search: it leaves at the first hit. Rows that do not rise are answered too, and their
+// answers stay those that this loop has always given; the library's search goes on past a hit, and for such rows
+// may answer another place, or none.
 fn search<R: Row>(rows: &[R], key: u64) -> Result<usize, usize>
     ensures { Found R.number key rows.now result }
 {
-    rows.binary_search_by_key(&key, |row| row.number())
+    let mut low = 0;
+    let mut high = rows.len();
+    while low < high {
+        let middle = low + (high - low) / 2;
+        let at = rows[middle].number();
+        if at == key {
+            return Ok(middle);
+        }
+        if at < key {
+            low = middle + 1;
+        } else {
+            high = middle;
+        }
+    }
+    Err(low)
 }
 
 /// The rows in use: the first `len`, or all where `len` is larger.
