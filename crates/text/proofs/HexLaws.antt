@@ -1,6 +1,6 @@
 -- What is written in hexadecimal reads back, and has one form.
-use Rattle.std.proofs.Common.{◌≡◌, ℕ, suc, ◌+◌, ◌-◌, ◌*◌, ◌/◌, ◌%◌, ◌<◌, List, [], ◌∷◌, ◌++◌, map, length, get_or, take, drop, true, false, ◌^◌, Some, None, Option, sym, refl, ap, ◌∙◌, arith, Fits, w8}
-use Rattle.std.proofs.lemmas.List.{append_assoc, take_more, take_rest}
+use Rattle.std.proofs.Common.{◌≡◌, ℕ, suc, ◌+◌, ◌-◌, ◌*◌, ◌/◌, ◌%◌, ◌<◌, ◌≤◌, List, [], ◌∷◌, ◌++◌, map, length, get_or, take, drop, true, false, ◌^◌, Some, None, Option, sym, refl, ap, ◌∙◌, arith, Fits, w8}
+use Rattle.std.proofs.lemmas.List.{append_assoc, append-nil, take_all, take_more, take_rest}
 use Rattle.std.proofs.lemmas.Bool.Decides.{nat_tests}
 use Rattle.std.proofs.lemmas.Fmt.{hex_byte}
 use Rattle.std.specs.Fmt.{digits, digit_glyph, padded_integral, format_spec}
@@ -21,15 +21,19 @@ value_digit : (d : ℕ) → d < 16 → hex_value (hex_digit d) ≡ Some d
 value_digit d h = grind (arith, nat_tests)
 
 -- what is written is read back
-pub reads_back : (bs : List ℕ) → ((i : ℕ) → Fits w8 (get_or bs i 0)) → HexReadsBack bs
+pub reads_back : (bs : List ℕ) → ((i : ℕ) → get_or bs i 0 < 256) → HexReadsBack bs
 reads_back [] h = refl
 reads_back (b ∷ bs) h =
-    let small : b < 256 = omega (arith, h 0) in
+    let small : b < 256 = h 0 in
     let high = value_digit (b / 16) (omega arith) in
     let low = value_digit (b % 16) (omega arith) in
     let whole : b / 16 * 16 + b % 16 ≡ b = omega arith in
     let rest = reads_back bs (λ i. h (suc i)) in
     rw (high, low, rest, whole) refl
+
+-- the same, by what a slice of bytes says of them
+pub bytes_read_back : (bs : List ℕ) → ((i : ℕ) → Fits w8 (get_or bs i 0)) → HexReadsBack bs
+bytes_read_back bs h = reads_back bs (λ i. omega (arith, h i))
 
 -- a digit of either case is, in upper case, the digit of its value
 upper_value : (c x : ℕ) → hex_value c ≡ Some x → (x < 16) × (to_ascii_uppercase c ≡ hex_digit x)
@@ -53,7 +57,7 @@ parts (Some h) (Some l) (Some zs) bs e =
     record { high = h; low = l; tail = zs; high_is = refl; low_is = refl; tail_is = refl; whole = cc }
 
 -- what is read has one form
-one_form : (text bs : List ℕ) → bytes_of text ≡ Some bs → map to_ascii_uppercase text ≡ hex_of bs
+pub one_form : (text bs : List ℕ) → bytes_of text ≡ Some bs → map to_ascii_uppercase text ≡ hex_of bs
 one_form [] bs e = let z : bs ≡ [] = cc in rw z refl
 one_form (h ∷ []) bs e = cc
 one_form (h ∷ (l ∷ text)) bs e =
@@ -74,12 +78,21 @@ has_one_form text (Some bs) e = one_form text bs (sym e)
 same_glyph : (d : ℕ) → digit_glyph true d ≡ hex_digit d
 same_glyph d = grind (arith, nat_tests)
 
--- a turn of the writer: xs is the digits of the first i bytes, and those of one byte more come behind
-pub writes_on : (xs ys bs : List ℕ) (i : ℕ) → i < length bs → get_or bs i 0 < 256 → xs ≡ hex_of (take i bs) → ys ≡ xs ++ padded_integral (format_spec 32 0 4 2 (2 ^ 64 - 1)) false [] (digits 16 true (get_or bs i 0)) → ys ≡ hex_of (take (i + 1) bs)
-writes_on xs ys bs i h small e f =
+-- a turn of a writer by `{:02X}`: xs is the digits of the first i bytes, and those of one byte more come behind
+pub formats_on : (xs ys bs : List ℕ) (i : ℕ) → i < length bs → get_or bs i 0 < 256 → xs ≡ hex_of (take i bs) → ys ≡ xs ++ padded_integral (format_spec 32 0 4 2 (2 ^ 64 - 1)) false [] (digits 16 true (get_or bs i 0)) → ys ≡ hex_of (take (i + 1) bs)
+formats_on xs ys bs i h small e f =
     let high = same_glyph (get_or bs i 0 / 16) in
     let low = same_glyph (get_or bs i 0 % 16) in
     f ∙ ap (λ z. xs ++ z) (hex_byte true (get_or bs i 0) small) ∙ rw (e, high, low) (sym (hex_of-more bs i h))
+
+-- a turn of the writer: ys was xs and the digits of the first i bytes, and two digits p and q come behind
+pub writes_on : (xs ys zs bs : List ℕ) (i p q : ℕ) → i < length bs → ys ≡ xs ++ hex_of (take i bs) → p ≡ hex_digit (get_or bs i 0 / 16) → q ≡ hex_digit (get_or bs i 0 % 16) → zs ≡ ys ++ (p ∷ (q ∷ [])) → zs ≡ xs ++ hex_of (take (i + 1) bs)
+writes_on xs ys zs bs i p q h e high low f =
+    f ∙ ap (λ z. z ++ (p ∷ (q ∷ []))) e ∙ append_assoc xs (hex_of (take i bs)) (p ∷ (q ∷ [])) ∙ ap (λ z. xs ++ z) (rw (high, low) (sym (hex_of-more bs i h)))
+
+-- the writer's end
+pub writes_all : (xs ys bs : List ℕ) (i : ℕ) → length bs ≤ i → ys ≡ xs ++ hex_of (take i bs) → ys ≡ xs ++ hex_of bs
+writes_all xs ys bs i h e = e ∙ ap (λ z. xs ++ hex_of z) (take_all i bs h)
 
 -- a byte put behind what was read stands in front of what is to come
 behind : (xs : List ℕ) (h l : ℕ) (o : Option (List ℕ)) → option_map (λ ys. (xs ++ ((h * 16 + l) ∷ [])) ++ ys) o ≡ option_map (λ ys. xs ++ ys) (with_byte (Some h) (Some l) o)
@@ -92,3 +105,8 @@ reads_on xs zs [] h l o high low e inv = cc
 reads_on xs zs (a ∷ []) h l o high low e inv = cc
 reads_on xs zs (a ∷ (b ∷ t)) h l o high low e inv =
     ap (λ z. option_map (λ ys. zs ++ ys) (bytes_of z)) (take_rest (a ∷ (b ∷ t)) 2) ∙ ap (λ z. option_map (λ ys. z ++ ys) (bytes_of t)) e ∙ behind xs h l (bytes_of t) ∙ ap (λ z. option_map (λ ys. xs ++ ys) (with_byte (Some h) z (bytes_of t))) (sym low) ∙ ap (λ z. option_map (λ ys. xs ++ ys) (with_byte z (hex_value b) (bytes_of t))) (sym high) ∙ inv
+
+-- the reader's end
+pub reads_all : (xs rest : List ℕ) (o : Option (List ℕ)) → length rest ≡ 0 → option_map (λ ys. xs ++ ys) (bytes_of rest) ≡ o → Some xs ≡ o
+reads_all xs [] o h e = ap Some (sym (append-nil xs)) ∙ e
+reads_all xs (a ∷ rest) o h e = absurd (omega arith)

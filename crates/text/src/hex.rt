@@ -3,10 +3,10 @@
 //! Kept true: what `push_hex` appends, `read_hex` reads as the same bytes; and a text that `read_hex` reads is, but for
 //! the case of its letters, what `push_hex` appends of the answer. So bytes have one text, but for that case.
 
-ghost use Rattle.std.specs.Prelude.{◌≡◌, ◌++◌, IfOk, vec_items, OnOk};
+ghost use Rattle.std.specs.Prelude.{◌≡◌, ◌<◌, ◌++◌, IfOk, vec_items, OnOk};
 ghost use Rattle.std.specs.Option.{option_map};
 ghost use Rattle.text.specs.Grown.{Grown};
-ghost use Rattle.text.specs.Hex.{hex_of, hex_value, bytes_of, HexReadsBack, HexHasOneForm, bytes_in, bytes_text};
+ghost use Rattle.text.specs.Hex.{hex_digit, hex_of, hex_value, bytes_of, HexReadsBack, HexHasOneForm, bytes_in, bytes_text};
 
 use crate::word::is_word;
 use std::alloc::{AllocError, Global};
@@ -16,6 +16,21 @@ const NO_BYTES: &[u8] = b"-";
 
 /// How many values a digit has.
 const BASE: u8 = 16;
+
+/// The value of the first digit that is a letter.
+const LETTERS: u8 = 10;
+
+/// The upper-case digit of a value below 16.
+fn hex_digit(value: u8) -> u8
+    requires { value < 16 }
+    ensures { result ≡ hex_digit value }
+{
+    if value < LETTERS {
+        b'0' + value
+    } else {
+        b'A' + (value - LETTERS)
+    }
+}
 
 /// The value of a digit of either case.
 fn hex_value(digit: u8) -> Option<u8>
@@ -27,18 +42,19 @@ fn hex_value(digit: u8) -> Option<u8>
 
 /// Appends two upper-case digits for each of the bytes.
 ///
-/// Where memory runs out, `out` still begins with what it held.
-#[tactic(auto, using(crate::proofs::HexLaws::reads_back))]
+/// Where memory runs out, `out` holds what it held and the digits of some of the bytes.
+#[tactic(auto, using(crate::proofs::HexLaws::bytes_read_back))]
 pub fn push_hex(out: &mut Vec<u8>, bytes: &[u8]) -> Result<(), AllocError>
     ensures writes { OnOk result (out.new.items ≡ out.old.items ++ hex_of bytes.now) }
     ensures keeps { Grown out.old.items out.new.items }
     ensures reads_back { HexReadsBack bytes.now }
 {
-    let mut text = String::new(*out.allocator());
+    // A format for each byte would take longer, and its text would be held beside `out` until the end.
     for byte in bytes {
-        write!(text, "{byte:02X}")?;
+        let digits = [hex_digit(*byte / BASE), hex_digit(*byte % BASE)];
+        out.extend_from_slice(&digits)?;
     }
-    out.extend_from_slice(text.as_bytes())
+    Ok(())
 }
 
 /// The bytes that the text writes, two digits of either case for each; `None` where it holds another byte, or an odd

@@ -1,8 +1,7 @@
-use Rattle.std.proofs.Common.{◌≡◌, take}
-use Rattle.std.specs.String.{string_bytes}
+use Rattle.std.proofs.Common.{◌≡◌, ◌++◌, take, vec_items}
 use Rattle.text.specs.Hex.{hex_of}
 use Rattle.text.proofs.hex.push_hex.Given as goal
 
--- the digits of the bytes so far were written
+-- the digits of the bytes so far were appended
 abbrev pub invariant-loop-byte : goal.invariant-loop-byte
-invariant-loop-byte l = string_bytes l.text ≡ hex_of (take l.byte-index l.bytes)
+invariant-loop-byte l = vec_items l.out ≡ vec_items l.initial.out ++ hex_of (take l.byte-index l.bytes)
