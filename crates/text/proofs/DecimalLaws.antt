@@ -1,6 +1,7 @@
--- What `parse` makes of decimal text, and of any other.
-use Rattle.std.proofs.Common.{◌≡◌, ℕ, ◌^◌, ◌<◌, ◌≤◌, true, false, ◌&&◌, ◌||◌, eqb, ltb, List, length, get_or, Some, None, Ok, Err, IsUtf8, decimal, Option, Result, sym, refl, ap, ◌∙◌, subst, inl, inr, arith}
-use Rattle.std.proofs.lemmas.Fmt.{digits_value-decimal, decimal_digit, decimal_nonempty, decimal-digits_value, digits_decimal, first_decimal, IsAscii-decimal, parse-decimal}
+-- Decimal text, one digit after another, and what `parse` makes of it, and of any other.
+use Rattle.std.proofs.Common.{◌≡◌, ℕ, ◌+◌, ◌/◌, ◌%◌, ◌^◌, ◌<◌, ◌≤◌, true, false, ◌&&◌, ◌||◌, eqb, ltb, List, [], ◌∷◌, ◌++◌, length, get_or, Some, None, Ok, Err, IsUtf8, decimal, Option, Result, sym, refl, ap, ◌∙◌, subst, inl, inr, arith}
+use Rattle.std.proofs.lemmas.Fmt.{digits_value-decimal, decimal_digit, decimal_step, decimal_nonempty, decimal-digits_value, digits_decimal, first_decimal, IsAscii-decimal, parse-decimal}
+use Rattle.std.proofs.lemmas.List.{append_assoc}
 use Rattle.std.proofs.lemmas.Str.Parse.{IsNumeralModel, numerals_by_value, tells_digits, digit_at, parse_plain}
 use Rattle.std.proofs.lemmas.Bool.{eqb-false, or_parts, and_parts, cases_lt, cases_Bool, cond-true, cond-false, lt-ltb, ltb-true}
 use Rattle.std.proofs.lemmas.Slice.Eq.{bytes_eq-Decides}
@@ -11,6 +12,16 @@ use Rattle.std.specs.Str.Parse.{AllDigits, digits_value, ParsesUnsigned}
 use Rattle.std.specs.Borrow.{Bor}
 use Rattle.std.specs.Result.{MatchResult, result_ok}
 use Rattle.text.specs.Decimal.{is_padded, ReadsDecimal, number_of}
+
+-- a writer of one digit after another: zs is ys and the last digit, and ys is xs and the digits before it, if there are any
+pub last_digit : (xs ys zs : List ℕ) (n : ℕ) → 10 ≤ n → n < 2 ^ 64 → ys ≡ xs ++ decimal (n / 10) → zs ≡ ys ++ ((48 + n % 10) ∷ []) → zs ≡ xs ++ decimal n
+last_digit xs ys zs n h small e f =
+    f ∙ ap (λ z. z ++ ((48 + n % 10) ∷ [])) e ∙ append_assoc xs (decimal (n / 10)) ((48 + n % 10) ∷ []) ∙ ap (λ z. xs ++ z) (sym (decimal_step n h small))
+
+pub only_digit : (xs zs : List ℕ) (n : ℕ) → n < 10 → zs ≡ xs ++ ((48 + n % 10) ∷ []) → zs ≡ xs ++ decimal n
+only_digit xs zs n h f =
+    let same : n % 10 ≡ n = omega arith in
+    f ∙ ap (λ (z : ℕ). xs ++ ((48 + z) ∷ [])) same ∙ ap (λ z. xs ++ z) (sym (decimal_digit n h))
 
 own : IsNumeralModel (AllDigits 10) (digits_value 10)
 own = numerals_by_value (AllDigits 10) tells_digits
@@ -31,6 +42,11 @@ front_padded first len p h alone = grind (arith, nat_tests)
 
 front_plain : (first len : ℕ) → (eqb first 43 || (eqb first 48 && ltb 1 len)) ≡ false → 0 < len → first ≡ 48 → len ≡ 1
 front_plain first len p some zero = grind (arith, nat_tests)
+
+-- an empty text has none of that in front
+pub empty_plain : (text : List ℕ) → length text ≡ 0 → is_padded text ≡ false
+empty_plain [] h = refl
+empty_plain (b ∷ bs) h = absurd (omega arith)
 
 -- no number is written with what `parse` passes over in front
 pub padded_reads_none : (text : List ℕ) → is_padded text ≡ true → ReadsDecimal text None

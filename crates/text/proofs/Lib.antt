@@ -1,3 +1,4 @@
 pub mod DecimalLaws
+pub mod GrownLaws
 pub mod HexLaws
 pub mod WordLaws

@@ -1,6 +1,7 @@
 -- A text is blanks, a word and a rest.
-use Rattle.std.proofs.Common.{◌≡◌, ℕ, suc, ◌+◌, ◌≤◌, Bool, true, false, not, cond, nat_lt, List, [], ◌∷◌, ◌++◌, length, take, drop, Some, None, Option, unwrap_or, sym, refl, ap, ◌∙◌, inl, inr, arith}
+use Rattle.std.proofs.Common.{◌≡◌, ℕ, suc, ◌+◌, ◌<◌, ◌≤◌, Bool, true, false, not, cond, nat_lt, List, [], ◌∷◌, ◌++◌, length, get_or, take, drop, Some, None, Option, unwrap_or, sym, refl, ap, ◌∙◌, inl, inr, arith}
 use Rattle.std.proofs.lemmas.Bool.Decides.{nat_tests}
+use Rattle.std.proofs.lemmas.List.{append_assoc, append-nil, take_more, take_all, drop_all, drop_more, at_drop_more, at_drop_all}
 use Rattle.std.proofs.lemmas.List.Sums.{prefix_len-le-length}
 use Rattle.std.specs.List.{position, position_or_len}
 use Rattle.std.proofs.lemmas.Bool.{cond-true, cond-false, cond_both, cases_Bool}
@@ -87,3 +88,36 @@ pub word_passed : (text : List ℕ) → drop (position_or_len is_blank text) tex
 word_passed [] = refl
 word_passed (b ∷ bs) =
     elim (is_blank b) as (λ v. drop (cond (not v) (1 + position_or_len is_blank bs) 0) (b ∷ bs) ≡ cond v (b ∷ bs) (from_blank bs)) [ true ↦ refl | false ↦ rw (one_more (position_or_len is_blank bs)) (word_passed bs) ]
+
+-- a loop that has passed i bytes of the text meets one more
+module _ (text : List ℕ) (i : ℕ) (h : i < length text) where
+  -- a blank is passed over
+  pub skips : is_blank (get_or text i 0) ≡ true → without_blanks (drop (i + 1) text) ≡ without_blanks (drop i text)
+  skips e = sym (at_drop_more without_blanks text i 0 h ∙ cond-true _ _ _ e)
+
+  -- any other byte is the first that is kept
+  pub skips_no_more : is_blank (get_or text i 0) ≡ false → drop i text ≡ without_blanks (drop i text)
+  skips_no_more e = drop_more text i 0 h ∙ sym (at_drop_more without_blanks text i 0 h ∙ cond-false _ _ _ e)
+
+  -- a byte that is no blank is the word's
+  pub word_on : is_blank (get_or text i 0) ≡ false → take (i + 1) text ++ up_to_blank (drop (i + 1) text) ≡ take i text ++ up_to_blank (drop i text)
+  word_on e =
+      ap (λ z. z ++ up_to_blank (drop (i + 1) text)) (take_more text i 0 h) ∙ append_assoc (take i text) (get_or text i 0 ∷ []) (up_to_blank (drop (i + 1) text)) ∙ ap (λ z. take i text ++ z) (sym (at_drop_more up_to_blank text i 0 h ∙ cond-false _ _ _ e))
+
+  pub rest_on : is_blank (get_or text i 0) ≡ false → from_blank (drop (i + 1) text) ≡ from_blank (drop i text)
+  rest_on e = sym (at_drop_more from_blank text i 0 h ∙ cond-false _ _ _ e)
+
+  -- a blank ends the word, and begins the rest
+  pub word_stops : is_blank (get_or text i 0) ≡ true → take i text ≡ take i text ++ up_to_blank (drop i text)
+  word_stops e = sym (append-nil (take i text)) ∙ ap (λ z. take i text ++ z) (sym (at_drop_more up_to_blank text i 0 h ∙ cond-true _ _ _ e))
+
+  pub rest_starts : is_blank (get_or text i 0) ≡ true → drop i text ≡ from_blank (drop i text)
+  rest_starts e = drop_more text i 0 h ∙ sym (at_drop_more from_blank text i 0 h ∙ cond-true _ _ _ e)
+
+-- at the text's end
+pub word_ends : (text : List ℕ) (i : ℕ) → length text ≤ i → take (length text) text ≡ take i text ++ up_to_blank (drop i text)
+word_ends text i h =
+    take_all (length text) text (omega arith) ∙ sym (take_all i text h) ∙ sym (append-nil (take i text)) ∙ ap (λ z. take i text ++ z) (sym (at_drop_all up_to_blank text i h))
+
+pub rest_ends : (text : List ℕ) (i : ℕ) → length text ≤ i → drop (length text) text ≡ from_blank (drop i text)
+rest_ends text i h = drop_all (length text) text (omega arith) ∙ sym (at_drop_all from_blank text i h)
