@@ -13,7 +13,7 @@ use std::str::from_utf8;
 
 /// Appends the decimal digits of the number, with no zero in front but for 0 itself.
 ///
-/// Where memory runs out, `out` still begins with what it held.
+/// Where memory runs out, `out` holds what it held and some of the digits.
 pub fn push_decimal(out: &mut Vec<u8>, n: u64) -> Result<(), AllocError>
     ensures writes { OnOk result (out.new.items ≡ out.old.items ++ decimal n) }
     ensures keeps { Grown out.old.items out.new.items }
