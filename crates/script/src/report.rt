@@ -9,7 +9,7 @@ ghost use Rattle.script.specs.Reports.{event_text, spoken_text, frame_line, end_
 use faults::Refusal;
 use items::{Event, Events, ItemKind, SpokenLines};
 use std::alloc::AllocError;
-use text::shown::push_shown;
+use text::shown::write_shown;
 
 /// A kind whose items have a text to be shown.
 pub trait ItemText: ItemKind {
@@ -36,7 +36,7 @@ impl ItemText for Events {
 
     fn push_item(&self, item: &[u8], out: &mut Vec<u8>) -> Result<(), AllocError> {
         match Event::decode(item) {
-            Ok(event) => push_shown(out, &event),
+            Ok(event) => write_shown(out, event),
             Err(_) => Ok(()),
         }
     }
@@ -52,7 +52,7 @@ pub(crate) fn push_frame<K: ItemText>(
 ) -> Result<(), AllocError>
     ensures { OnOk result (out.new.items ≡ out.old.items ++ frame_line index byte (K.text kind.now item.now)) }
 {
-    push_shown(out, &format_args!("frame {index} byte {byte} "))?;
+    write_shown(out, format_args!("frame {index} byte {byte} "))?;
     kind.push_item(item, out)?;
     out.extend_from_slice(b"\n")
 }
@@ -61,19 +61,19 @@ pub(crate) fn push_frame<K: ItemText>(
 pub(crate) fn push_end(out: &mut Vec<u8>, size: u64) -> Result<(), AllocError>
     ensures { OnOk result (out.new.items ≡ out.old.items ++ end_line size) }
 {
-    push_shown(out, &format_args!("end {size}\n"))
+    write_shown(out, format_args!("end {size}\n"))
 }
 
 // `torn N rest K`: N bytes of whole frames, and K bytes that follow.
 pub(crate) fn push_torn(out: &mut Vec<u8>, size: u64, rest: u64) -> Result<(), AllocError>
     ensures { OnOk result (out.new.items ≡ out.old.items ++ torn_line size rest) }
 {
-    push_shown(out, &format_args!("torn {size} rest {rest}\n"))
+    write_shown(out, format_args!("torn {size} rest {rest}\n"))
 }
 
 // `refused N` and the values of the refusal.
 pub(crate) fn push_refusal(out: &mut Vec<u8>, refusal: Refusal) -> Result<(), AllocError>
     ensures { OnOk result (out.new.items ≡ out.old.items ++ refused_line refusal) }
 {
-    push_shown(out, &format_args!("{refusal}\n"))
+    write_shown(out, format_args!("{refusal}\n"))
 }

@@ -9,7 +9,7 @@ use faults::ShelfFault;
 use shelf::Shelf;
 use std::alloc::{AllocError, Global};
 use text::hex::push_bytes;
-use text::shown::push_shown;
+use text::shown::write_shown;
 
 /// Why the blobs of a shelf are not shown.
 #[derive(Clone, Copy)]
@@ -40,7 +40,7 @@ impl From<AllocError> for PrintFault {
 fn push_blob_line(out: &mut Vec<u8>, blob: u64, safe: u64, bytes: &[u8]) -> Result<(), AllocError>
     ensures { OnOk result (out.new.items ≡ out.old.items ++ blob_text blob safe bytes.now) }
 {
-    push_shown(out, &format_args!("blob {blob} safe {safe} bytes "))?;
+    write_shown(out, format_args!("blob {blob} safe {safe} bytes "))?;
     push_bytes(out, bytes)?;
     out.extend_from_slice(b"\n")
 }

@@ -1,4 +1,5 @@
 pub mod DecimalLaws
 pub mod GrownLaws
 pub mod HexLaws
+pub mod ShownLaws
 pub mod WordLaws

@@ -7,7 +7,7 @@ ghost use Rattle.std.specs.Prelude.{◌≡◌, ◌++◌, decimal, OnOk};
 ghost use Rattle.text.specs.Decimal.{is_padded, ReadsDecimal, number_of, labelled};
 ghost use Rattle.text.specs.Grown.{Grown};
 
-use crate::shown::push_shown;
+use crate::shown::{push_shown, write_shown};
 use std::alloc::AllocError;
 use std::str::from_utf8;
 
@@ -43,5 +43,5 @@ pub fn read_decimal(text: &[u8]) -> Option<u64>
 pub fn push_labelled(out: &mut Vec<u8>, label: &str, n: u64) -> Result<(), AllocError>
     ensures { OnOk result (out.new.items ≡ out.old.items ++ labelled label.now n) }
 {
-    push_shown(out, &format_args!("{label}{n}"))
+    write_shown(out, format_args!("{label}{n}"))
 }

@@ -15,7 +15,7 @@ pub mod word;
 mod tests {
     use crate::decimal::{push_decimal, push_labelled, read_decimal};
     use crate::hex::{push_bytes, push_hex, read_bytes, read_hex};
-    use crate::shown::{push_error, push_shown};
+    use crate::shown::{push_error, push_shown, write_shown};
     use crate::word::{WordFault, first_word, last_word, next_word, no_word};
     use std::test::Fail;
 
@@ -79,6 +79,8 @@ mod tests {
         assert!(rt; out.as_slice() == b"gate4".as_slice());
         push_error(&mut out, &"no gate")?;
         assert!(rt; out.as_slice() == b"gate4error: no gate\n".as_slice());
+        write_shown(&mut out, format_args!("gate {}\n", 4))?;
+        assert!(rt; out.as_slice() == b"gate4error: no gate\ngate 4\n".as_slice());
         out.clear();
         push_shown(&mut out, &WordFault::Missing)?;
         push_shown(&mut out, &WordFault::Extra)?;
