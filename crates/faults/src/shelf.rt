@@ -35,11 +35,12 @@ pub struct ShelfFault {
     pub blob: u64,
 }
 
-impl fmt::Display for ShelfCause {
-    ghost output = { λ c. Some (cause_name c) };
-
-    fn fmt<W: fmt::Write>(&self, f: &mut fmt::Formatter<W>) -> fmt::Result {
-        f.write_str(match self {
+impl ShelfCause {
+    /// What it is called. Each cause has a name, which printing may only fail to write.
+    pub fn name(self) -> &'static str
+        ensures { result.now ≡ cause_name self }
+    {
+        match self {
             ShelfCause::Missing => "missing",
             ShelfCause::Present => "present",
             ShelfCause::Full => "full",
@@ -47,7 +48,15 @@ impl fmt::Display for ShelfCause {
             ShelfCause::OutOfRange => "out-of-range",
             ShelfCause::Down => "down",
             ShelfCause::Damaged => "damaged",
-        })
+        }
+    }
+}
+
+impl fmt::Display for ShelfCause {
+    ghost output = { λ c. Some (cause_name c) };
+
+    fn fmt<W: fmt::Write>(&self, f: &mut fmt::Formatter<W>) -> fmt::Result {
+        f.write_str(self.name())
     }
 }
 

@@ -28,7 +28,7 @@ fn push_scan(out: &mut Vec<u8>, kind: KindName, hex: &[u8]) -> Result<(), AllocE
 {
     match read_bytes(*out.allocator(), hex)? {
         Some(bytes) => push_kind(out, kind, bytes.as_slice()),
-        None => push_error(out, &ScriptFault::BadHex),
+        None => push_error(out, &ScriptFault::BadHex.words()),
     }
 }
 
@@ -39,7 +39,7 @@ fn push_answer(out: &mut Vec<u8>, line: &[u8]) -> Result<(), AllocError>
     match read_command(line) {
         Ok(None) => Ok(()),
         Ok(Some(Command::Scan { kind, hex })) => push_scan(out, kind, hex),
-        Err(fault) => push_error(out, &fault),
+        Err(fault) => push_error(out, &fault.words()),
     }
 }
 

@@ -49,17 +49,26 @@ pub enum ScriptFault {
     BadHex,
 }
 
+impl ScriptFault {
+    /// Why a line is no command, in words. Each fault has its words, which printing may only fail to write.
+    pub fn words(self) -> &'static str
+        ensures { result.now ≡ fault_text self }
+    {
+        match self {
+            ScriptFault::Overlong => "the line is longer than 65536 bytes",
+            ScriptFault::UnknownCommand => "unknown command",
+            ScriptFault::UnknownKind => "unknown item kind, not line or event",
+            ScriptFault::Word(fault) => fault.words(),
+            ScriptFault::BadHex => "not pairs of hexadecimal digits",
+        }
+    }
+}
+
 impl fmt::Display for ScriptFault {
     ghost output = { λ e. Some (fault_text e) };
 
     fn fmt<W: fmt::Write>(&self, f: &mut fmt::Formatter<W>) -> fmt::Result {
-        match self {
-            ScriptFault::Overlong => write!(f, "the line is longer than {MAX_LINE} bytes"),
-            ScriptFault::UnknownCommand => f.write_str("unknown command"),
-            ScriptFault::UnknownKind => f.write_str("unknown item kind, not line or event"),
-            ScriptFault::Word(fault) => write!(f, "{fault}"),
-            ScriptFault::BadHex => f.write_str("not pairs of hexadecimal digits"),
-        }
+        f.write_str(self.words())
     }
 }
 

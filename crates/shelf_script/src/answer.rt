@@ -21,7 +21,7 @@ pub fn error_text(heap: Global, fault: LineFault) -> Result<Vec<u8>, AllocError>
     ensures { IfOk result (λ v. v.items ≡ error_line fault) }
 {
     let mut out = Vec::new(heap);
-    push_error(&mut out, &fault)?;
+    push_error(&mut out, &fault.words())?;
     Ok(out)
 }
 

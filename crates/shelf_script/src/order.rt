@@ -97,19 +97,28 @@ pub enum LineFault {
     BadHex,
 }
 
+impl LineFault {
+    /// Why a line is no order, in words. Each fault has its words, which printing may only fail to write.
+    pub fn words(self) -> &'static str
+        ensures { result.now ≡ fault_text self }
+    {
+        match self {
+            LineFault::UnknownCommand => "unknown command",
+            LineFault::NoShelf => "no shelf is open",
+            LineFault::UnknownStack => "unknown stack of shelves",
+            LineFault::Word(fault) => fault.words(),
+            LineFault::BadNumber => "not a decimal number below 2^64",
+            LineFault::BadSetting => "not max=NUMBER size=NUMBER",
+            LineFault::BadHex => "not pairs of hexadecimal digits",
+        }
+    }
+}
+
 impl fmt::Display for LineFault {
     ghost output = { λ e. Some (fault_text e) };
 
     fn fmt<W: fmt::Write>(&self, f: &mut fmt::Formatter<W>) -> fmt::Result {
-        f.write_str(match self {
-            LineFault::UnknownCommand => "unknown command",
-            LineFault::NoShelf => "no shelf is open",
-            LineFault::UnknownStack => "unknown stack of shelves",
-            LineFault::Word(fault) => return write!(f, "{fault}"),
-            LineFault::BadNumber => "not a decimal number below 2^64",
-            LineFault::BadSetting => "not max=NUMBER size=NUMBER",
-            LineFault::BadHex => "not pairs of hexadecimal digits",
-        })
+        f.write_str(self.words())
     }
 }
 

@@ -5,7 +5,7 @@ ghost use Rattle.shelf_script.specs.Outcomes.{outcome_line, outcome_text};
 
 use faults::ShelfFault;
 use std::alloc::AllocError;
-use text::shown::push_shown;
+use text::shown::write_shown;
 
 // Appends how an order ended, and ends its line.
 fn push_ending(out: &mut Vec<u8>, outcome: Result<(), ShelfFault>) -> Result<(), AllocError>
@@ -13,7 +13,10 @@ fn push_ending(out: &mut Vec<u8>, outcome: Result<(), ShelfFault>) -> Result<(),
 {
     match outcome {
         Ok(()) => out.extend_from_slice(b" -> ok\n"),
-        Err(ShelfFault { cause, .. }) => { push_shown(out, &format_args!(" -> refused {cause}\n")) }
+        Err(ShelfFault { cause, .. }) => {
+            let cause = cause.name();
+            write_shown(out, format_args!(" -> refused {cause}\n"))
+        }
     }
 }
 

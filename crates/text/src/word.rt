@@ -36,14 +36,23 @@ pub enum WordFault {
     Extra,
 }
 
+impl WordFault {
+    /// What is said of it. Each fault has its words, which printing may only fail to write.
+    pub fn words(self) -> &'static str
+        ensures { result.now ≡ word_fault_text self }
+    {
+        match self {
+            WordFault::Missing => "a word is missing",
+            WordFault::Extra => "a word too many",
+        }
+    }
+}
+
 impl fmt::Display for WordFault {
     ghost output = { λ e. Some (word_fault_text e) };
 
     fn fmt<W: fmt::Write>(&self, f: &mut fmt::Formatter<W>) -> fmt::Result {
-        f.write_str(match self {
-            WordFault::Missing => "a word is missing",
-            WordFault::Extra => "a word too many",
-        })
+        f.write_str(self.words())
     }
 }
 
