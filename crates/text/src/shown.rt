@@ -30,8 +30,8 @@ impl Write for Tail {
 
 /// Appends what is displayed, piece by piece: where its type states its text, just that text.
 ///
-/// Where memory runs out, some of the text may be there. The lines of a report go this way: a text of its own for each costs about as
-/// much again as writing it.
+/// Where memory runs out, nothing is promised of what `out` holds: who needs that calls `push_shown`. The lines of a report go this way,
+/// since a report that was begun is then let go: a text of its own for each line costs about as much again as writing it.
 pub fn write_shown<D: Display + Drop>(out: &mut Vec<u8>, shown: D) -> Result<(), AllocError>
     ensures { IfSome (D.output shown) (λ text. OnOk result (out.new.items ≡ out.old.items ++ text)) }
 {
